@@ -1,0 +1,24 @@
+use mathlib.Core.Path.{_≡_, ap, ap₂, _∙_}
+use Prim.Native.Nat.{ℕ, _+_, _*_}
+use native.Mathlib.Omega.{arith}
+use lib.Bits.{bitAnd}
+use lib.ListN.{getD}
+use Rattle.grid.specs.Sets.{bit}
+use Rattle.grid.specs.Tables.{rowOf, upTable, downTable}
+use Rattle.grid.proofs.Known.{known}
+use Rattle.grid.proofs.Rows.{row-tells}
+use Rattle.grid.proofs.path.Path.points_tiles.Needs as need
+
+pub up-to-requires : need.up-to-requires
+up-to-requires c κs = record { row = known (c .args .self .now) .row; point = c .pre .within }
+
+pub down-from-requires : need.down-from-requires
+down-from-requires c κs = record { row = known (c .args .self .now) .row; point = omega arith }
+
+pub returns : need.returns
+returns c tile =
+    let p = c .args .self .now in
+    let up = c .up-to .ensures ∙ ap (λ r. getD upTable (48 * r + c .args .last) 0) (p .stands) in
+    let down = c .down-from .ensures ∙ ap (λ r. getD downTable (48 * r + c .args .first) 0) (p .stands) in
+    ap₂ (λ x y. bit (bitAnd x y) tile) up down
+    ∙ row-tells (p .junction .lanes) (p .body) (p .fitting) (p .junction .some) (p .junction .few) (c .args .first) (c .args .last) tile (c .pre .order) (c .pre .within)

@@ -1,0 +1,22 @@
+-- What a path answers. Assumes nothing.
+use mathlib.Core.Path.{_≡_}
+use mathlib.Core.Bool.{true, false}
+use Prim.Native.Nat.{ℕ, _≤_, _<_}
+use Rattle.std.specs.declared.option.Option.{Option}
+use Rattle.std.specs.declared.option.Option.the-variants.{Some, None}
+use Rattle.grid.specs.declared.junction.Junction.{Junction}
+use Rattle.grid.specs.declared.kinds.Body.{Body}
+use Rattle.grid.specs.declared.kinds.Point.{Point}
+use Rattle.grid.specs.declared.path.Path.{Path}
+use Rattle.grid.specs.Bodies.{fits}
+use Rattle.grid.specs.Paths.{lastPoint, pointAt}
+
+-- a body has a path where it fits the junction, and nowhere else
+abbrev pub PathOf : Junction → Body → Option Path → Type 0
+PathOf j body None = fits (j .lanes) body ≡ false
+PathOf j body (Some p) = (p .junction ≡ j) × (p .body ≡ body)
+
+-- a path has the points 0 to its last
+abbrev pub PointOf : Path → ℕ → Option Point → Type 0
+PointOf p i None = lastPoint (p .junction .lanes) (p .body) < i
+PointOf p i (Some at) = (i ≤ lastPoint (p .junction .lanes) (p .body)) × (at ≡ pointAt (p .junction .lanes) (p .body) i)
