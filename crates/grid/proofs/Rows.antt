@@ -3,13 +3,13 @@ use mathlib.Core.Path.{_≡_, refl, sym, ap, ap₂, subst, _∙_}
 use mathlib.Core.Bool.{Bool, true, false, _&&_}
 use mathlib.Core.List.{List, [], _∷_, _++_}
 use mathlib.Core.Logic.{⊎-elim}
-use Prim.Native.Nat.{ℕ, zero, suc, _+_, _-_, _*_, _/_, _%_, _<_, _≤_}
+use Prim.Native.Nat.{ℕ, zero, suc, _+_, _-_, _*_, _<_, _≤_}
 use native.Mathlib.Omega.{arith}
 use lib.Bits.{bitAnd}
 use lib.Dec.{leb, ltb, lit<}
 use lib.ListN.{length, getD}
 use Rattle.std.proofs.shelf.Lists.{getD-append-left, getD-append-add}
-use Rattle.std.proofs.shelf.Tests.{and-from, and-parts, both-ways, lt-ltb, ltb-true}
+use Rattle.std.proofs.shelf.Tests.{and-from, and-parts, both-ways, lt-ltb}
 use Rattle.grid.specs.declared.kinds.Approach.{Approach}
 use Rattle.grid.specs.declared.kinds.Approach.the-variants.{North, East, South, West}
 use Rattle.grid.specs.declared.kinds.Movement.{Movement}
@@ -17,7 +17,7 @@ use Rattle.grid.specs.declared.kinds.Movement.the-variants.{Left, Through, Rig
 use Rattle.grid.specs.declared.kinds.Body.{Body}
 use Rattle.grid.specs.Some.{some}
 use Rattle.grid.specs.Bodies.{approachNumber, laneRule, fits, Fits}
-use Rattle.grid.specs.Paths.{half, inside, lastPoint, pointAt, pointTouches, reaches, touches}
+use Rattle.grid.specs.Paths.{lastPoint, pointAt, pointTouches}
 use Rattle.grid.specs.Sets.{bit}
 use Rattle.grid.specs.Steps.{pointsTouch}
 use Rattle.grid.specs.Tables.{Route, route, routes, rows, rowOf, joinedUp, joinedDown, words, upRow, downRow, upTable, downTable, pointWord, movementNumber}
@@ -25,6 +25,7 @@ use Rattle.grid.proofs.Digits.{bit-word}
 use Rattle.grid.proofs.Fitting.{fits-parts}
 use Rattle.grid.proofs.Joins.{listed, joinBelow, joinFrom, unbroken, unbroken-at, length-listed, length-up, length-down, listed-at, up-at, down-at, between}
 use Rattle.grid.proofs.Somes.{same-tests, some-tests}
+use Rattle.grid.proofs.Sweeps.{touched-below}
 
 -- a row of the table by the row's number, where each has 48 points
 row-at : (f : Route → List ℕ) → ((r : Route) → length (f r) ≡ 48) → (rs : List Route) (k i : ℕ) (d : Route) → k < length rs → i < 48
@@ -119,17 +120,6 @@ placed (suc (suc zero)) Through zero h p q rule a = each-side (Placed 2 Through 
 placed (suc (suc zero)) Through (suc zero) h p q rule a = each-side (Placed 2 Through 1) (lit< tt, refl) (lit< tt, refl) (lit< tt, refl) (lit< tt, refl) a
 placed (suc (suc zero)) Right zero h p q rule a = absurd (both-ways false refl rule)
 placed (suc (suc zero)) Right (suc zero) h p q rule a = each-side (Placed 2 Right 1) (lit< tt, refl) (lit< tt, refl) (lit< tt, refl) (lit< tt, refl) a
-
--- a tile that is touched lies in the square, and so has a number below 64
-pub touched-below : (n : ℕ) (body : Body) (i tile : ℕ) → n ≤ 2 → pointTouches n body i tile ≡ true → tile < 64
-unfolding pointTouches
-touched-below n body i tile few e =
-    let p = pointAt n body i in
-    let h = half body in
-    let touched : touches n h p tile ≡ true = and-parts (leb i (lastPoint n body)) (touches n h p tile) e .1 in
-    let square : inside n tile ≡ true = and-parts (reaches h (p .x) (tile % 8) && reaches h (p .y) (tile / 8)) (inside n tile) touched .1 in
-    let row = ltb-true (tile / 8) (4 * n) (and-parts (ltb (tile % 8) (4 * n)) (ltb (tile / 8) (4 * n)) square .1) in
-    omega arith
 
 module _ (n : ℕ) (body : Body) (fit : fits n body ≡ true) (from : 1 ≤ n) (few : n ≤ 2) where
   here : Placed n (body .movement) (body .lane) (body .approach)

@@ -7,11 +7,11 @@ use native.Mathlib.Nat.{div-add-mod', mod-lt, mul-le-mul-right, suc-mul}
 use native.Mathlib.Omega.{arith}
 use lib.Dec.{leb, ltb}
 use Rattle.std.proofs.shelf.Bits.{div-below}
-use Rattle.std.proofs.shelf.Tests.{and-from, and-left, and-parts, cases-bool, cases-lt, le-leb, leb-true, lt-leb, lt-ltb, ltb-true}
+use Rattle.std.proofs.shelf.Tests.{and-from, and-left, and-parts, and-right, cases-bool, cases-lt, le-leb, leb-true, lt-leb, lt-ltb, ltb-true}
 use Rattle.grid.specs.declared.kinds.Body.{Body}
 use Rattle.grid.specs.Some.{some}
 use Rattle.grid.specs.Bodies.{Fits}
-use Rattle.grid.specs.Paths.{half, lastPoint, pointAt, pointTouches, touches}
+use Rattle.grid.specs.Paths.{half, inside, lastPoint, pointAt, pointTouches, touches}
 use Rattle.grid.specs.Steps.{durationOf, passes, pathTouches, pointsTouch, stepTouches, stepsTouch}
 use Rattle.grid.proofs.Fitting.{last-below, lasts-some}
 use Rattle.grid.proofs.Somes.{same-tests, some-at, some-found, some-never, some-same, some-tests}
@@ -31,13 +31,30 @@ some-single i f = same-tests _ (f i)
 pub some-whole : (n : ℕ) (f : ℕ → Bool) → some n (λ k. leb 0 k && f k) ≡ some n f
 some-whole n f = some-tests n _ _ (λ k. ap (λ x. x && f k) (le-leb 0 k (omega arith)))
 
-pub touched-point : (n : ℕ) (body : Body) (i tile : ℕ) → pointTouches n body i tile ≡ true → i ≤ lastPoint n body
-unfolding pointTouches
-touched-point n body i tile e = leb-true _ _ (and-parts (leb i (lastPoint n body)) (touches n (half body) (pointAt n body i) tile) e .0)
+module _ (n : ℕ) (body : Body) (i tile : ℕ) where
+  abbrev on-path : Bool
+  on-path = leb i (lastPoint n body)
 
-pub untouched-beyond : (n : ℕ) (body : Body) (i tile : ℕ) → lastPoint n body < i → pointTouches n body i tile ≡ false
-unfolding pointTouches
-untouched-beyond n body i tile h = and-left _ _ (lt-leb i (lastPoint n body) h)
+  abbrev touching : Bool
+  touching = touches (half body) (pointAt n body i) tile
+
+  pub touched-point : pointTouches n body i tile ≡ true → i ≤ lastPoint n body
+  unfolding pointTouches
+  touched-point e = leb-true _ _ (and-parts on-path touching (and-parts (inside n tile) (on-path && touching) e .1) .0)
+
+  pub touched-inside : pointTouches n body i tile ≡ true → inside n tile ≡ true
+  unfolding pointTouches
+  touched-inside e = and-parts (inside n tile) (on-path && touching) e .0
+
+  -- a tile of the square has a number below 64
+  pub touched-below : n ≤ 2 → pointTouches n body i tile ≡ true → tile < 64
+  touched-below few e =
+      let row = ltb-true (tile / 8) (4 * n) (and-parts (ltb (tile % 8) (4 * n)) (ltb (tile / 8) (4 * n)) (touched-inside e) .1) in
+      omega arith
+
+  pub untouched-beyond : lastPoint n body < i → pointTouches n body i tile ≡ false
+  unfolding pointTouches
+  untouched-beyond h = and-right (inside n tile) (on-path && touching) (and-left on-path touching (lt-leb i (lastPoint n body) h))
 
 -- a point from which the vehicle touches the tile in step s
 pub record Passing (n : ℕ) (body : Body) (s tile : ℕ) : Type 0 where

@@ -69,10 +69,10 @@ reaches h z c = leb (rim + 4 * c) (z + h - 1) && leb z (rim + 4 * c + 3 + h)
 abbrev pub inside : ℕ → ℕ → Bool
 inside n tile = ltb (tile % 8) (4 * n) && ltb (tile / 8) (4 * n)
 
--- a vehicle that reaches h to each side touches the tile from the point p
-abbrev pub touches : ℕ → ℕ → Point → ℕ → Bool
-touches n h p tile = reaches h (p .x) (tile % 8) && reaches h (p .y) (tile / 8) && inside n tile
+-- a vehicle that reaches h to each side of the point p touches the tile
+abbrev pub touches : ℕ → Point → ℕ → Bool
+touches h p tile = reaches h (p .x) (tile % 8) && reaches h (p .y) (tile / 8)
 
--- there is a point i on the path, and the vehicle touches the tile from there
+-- the tile lies in the square, there is a point i on the path, and the vehicle touches the tile from there
 unfoldable pub pointTouches : ℕ → Body → ℕ → ℕ → Bool
-pointTouches n body i tile = leb i (lastPoint n body) && touches n (half body) (pointAt n body i) tile
+pointTouches n body i tile = inside n tile && (leb i (lastPoint n body) && touches (half body) (pointAt n body i) tile)

@@ -7,11 +7,11 @@ use native.Mathlib.Omega.{arith}
 use lib.Dec.{eqb, leb}
 use Rattle.std.proofs.shelf.Tests.{and-from, and-parts, both-ways, cases-bool, eqb-true, le-leb, leb-true}
 use Rattle.grid.specs.declared.junction.Junction.{Junction}
+use Rattle.grid.specs.Paths.{inside}
 use Rattle.grid.specs.Some.{some}
 use Rattle.grid.specs.Steps.{durationOf, pathTouches, stepTouches, stepsTouch}
 use Rattle.grid.proofs.Somes.{same-tests, some-at, some-found, some-never, some-tests}
-use Rattle.grid.proofs.Sweeps.{step-found, touched-point}
-use Rattle.grid.proofs.Rows.{touched-below}
+use Rattle.grid.proofs.Sweeps.{step-found, touched-below, touched-inside, touched-point}
 use Rattle.grid.proofs.Same.{same-junction}
 use Rattle.reservation.specs.declared.request.Request.{Request}
 use Rattle.reservation.specs.Cells.{Holds, SharesCell, both, has, locks, near, pathsMeet, sameJunction, share, spansMeet}
@@ -34,7 +34,7 @@ module _ (j : Junction) (r : Request) where
   pub has-step : (tile t : ℕ) → has j r tile t ≡ true → (s : ℕ) × Holds j r s tile t × (s < d)
   unfolding has
   has-step tile t e =
-      let w = some-found d (takes tile t) e in
+      let w = some-found d (takes tile t) (and-parts (inside (j .lanes) tile) (some d (takes tile t)) e .1) in
       let s = w .0 in
       let parts = and-parts (near (j .buffer) (r .entry + s) t) (stepTouches (j .lanes) (r .body) s tile) (w .2) in
       let sides = and-parts (leb (r .entry + s) (t + j .buffer)) (leb t (r .entry + s + j .buffer)) (parts .0) in
@@ -44,8 +44,9 @@ module _ (j : Junction) (r : Request) where
   pub step-has : (tile t s : ℕ) → Holds j r s tile t → has j r tile t ≡ true
   unfolding has
   step-has tile t s h =
-      some-at d (takes tile t) s (step-found (j .lanes) (r .body) s tile (h .touched) .step)
-      (and-from _ _ (and-from _ _ (le-leb _ _ (h .early)) (le-leb _ _ (h .late))) (h .touched))
+      let p = step-found (j .lanes) (r .body) s tile (h .touched) in
+      and-from _ _ (touched-inside (j .lanes) (r .body) (p .point) tile (p .touched))
+      (some-at d (takes tile t) s (p .step) (and-from _ _ (and-from _ _ (le-leb _ _ (h .early)) (le-leb _ _ (h .late))) (h .touched)))
 
   -- who has a cell has it within the span
   pub has-within : (tile t : ℕ) → has j r tile t ≡ true → (r .entry ≤ t + j .buffer) × (t < spanEnd j r)

@@ -4,6 +4,7 @@ use mathlib.Core.Bool.{Bool, true, _&&_}
 use Prim.Native.Nat.{ℕ, _+_, _≤_, _<_}
 use lib.Dec.{eqb, leb}
 use Rattle.grid.specs.declared.junction.Junction.{Junction}
+use Rattle.grid.specs.Paths.{inside}
 use Rattle.grid.specs.Some.{some}
 use Rattle.grid.specs.Steps.{durationOf, pathTouches, stepTouches}
 use Rattle.reservation.specs.declared.request.Request.{Request}
@@ -13,10 +14,12 @@ use Rattle.reservation.specs.Requests.{firstTick, lastTick, spanEnd}
 abbrev pub near : ℕ → ℕ → ℕ → Bool
 near b u t = leb u (t + b) && leb t (u + b)
 
--- the request has the cell of the tile at tick t: some step touches the tile, at most a buffer away from t
+-- the request has the cell of the tile at tick t: the tile lies in the square, and some step touches it, at most a
+-- buffer away from t
 unfoldable pub has : Junction → Request → ℕ → ℕ → Bool
 has j r tile t =
-    some (durationOf (j .lanes) (r .body)) (λ s. near (j .buffer) (r .entry + s) t && stepTouches (j .lanes) (r .body) s tile)
+    inside (j .lanes) tile
+    && some (durationOf (j .lanes) (r .body)) (λ s. near (j .buffer) (r .entry + s) t && stepTouches (j .lanes) (r .body) s tile)
 
 -- a vehicle that is in step s at tick t, at most a buffer off its plan, touches the tile
 pub record Holds (j : Junction) (r : Request) (s tile t : ℕ) : Type 0 where
