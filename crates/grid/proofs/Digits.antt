@@ -114,8 +114,8 @@ meet-found a b small above =
 meet-above : (a b k : ℕ) → (bit a k && bit b k) ≡ true → bitAnd a b ≡ 0 → ⊥
 meet-above a b k on none = both-ways (bit (bitAnd a b) k) (ap (λ x. bit x k) none ∙ bit-zero k) (bit-and a b k ∙ on)
 
-pub bits-meet : (a b : ℕ) → a < 2 ^ 64 → not (eqb (bitAnd a b) 0) ≡ some 64 (λ k. bit a k && bit b k)
-bits-meet a b fits = same-tests (not (eqb (bitAnd a b) 0)) (some 64 (λ k. bit a k && bit b k))
+pub meets : (a b : ℕ) → a < 2 ^ 64 → not (eqb (bitAnd a b) 0) ≡ some 64 (λ k. bit a k && bit b k)
+meets a b fits = same-tests (not (eqb (bitAnd a b) 0)) (some 64 (λ k. bit a k && bit b k))
     (λ e. meet-found a b (omega (arith, and-le-l a b)) (grind (arith, tells)))
     (λ e.
     let w = some-found 64 (λ k. bit a k && bit b k) e in

@@ -16,17 +16,24 @@ fn lane_suits(lanes: u32, lane: u32, movement: Movement) -> bool
     }
 }
 
+// Whether the body's numbers are in their ranges, and its lane suits its movement.
+fn fits_lanes(body: &Body, lanes: u32) -> bool
+    ensures { λ r. ⌜ r ≡ fits lanes (now (body .entry)) ⌝ }
+{
+    body.lane < lanes
+        && lane_suits(lanes, body.lane, body.movement)
+        && body.length >= 4
+        && body.length <= 32
+        && body.speed >= 2
+        && body.speed <= 8
+}
+
 impl Body {
-    // Whether the body's numbers are in their ranges, and its lane suits its movement.
+    // Whether the body fits the junction: its numbers are in their ranges, and its lane suits its movement.
     pub fn fits(&self, junction: Junction) -> bool
         ensures answer { λ r. ⌜ r ≡ fits (junction .lanes) (now (self .entry)) ⌝ }
     {
-        self.lane < junction.lanes
-            && lane_suits(junction.lanes, self.lane, self.movement)
-            && self.length >= 4
-            && self.length <= 32
-            && self.speed >= 2
-            && self.speed <= 8
+        fits_lanes(self, junction.lanes)
     }
 
     // The number of the body's lane among all lanes of the junction.

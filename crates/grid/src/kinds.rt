@@ -1,7 +1,7 @@
 // The sides of a junction, the ways across it, and the body of a vehicle.
 
 // The side that a vehicle comes from, numbered 0 to 3 in this order.
-#[derive(Clone, Copy, PartialEq, Eq, Debug)]
+#[derive(Clone, Copy)]
 pub enum Approach {
     North,
     East,
@@ -9,7 +9,7 @@ pub enum Approach {
     West,
 }
 
-#[derive(Clone, Copy, PartialEq, Eq, Debug)]
+#[derive(Clone, Copy)]
 pub enum Movement {
     Left,
     Through,
@@ -17,7 +17,7 @@ pub enum Movement {
 }
 
 // What the paths know of a vehicle. Any numbers may stand here: `Path::of` checks them.
-#[derive(Clone, Copy, PartialEq, Eq, Debug)]
+#[derive(Clone, Copy)]
 pub struct Body {
     pub approach: Approach,
     pub movement: Movement,
@@ -31,7 +31,7 @@ pub struct Body {
 
 // A point of a path, in units eastward and southward. Both are counted from 4 units outside the
 // square's north-west corner, so that none is below 0.
-#[derive(Clone, Copy, PartialEq, Eq, Debug)]
+#[derive(Clone, Copy)]
 pub struct Point {
     pub x: u32,
     pub y: u32,

@@ -2,6 +2,7 @@
 pub mod bodies;
 pub mod junction;
 pub mod kinds;
+mod lookup;
 pub mod making;
 pub mod path;
 pub mod points;

@@ -1,7 +1,7 @@
 // The points of a path.
 ghost use mathlib.Core.Path.{_≡_};
 ghost use Prim.Native.Nat.{_+_, _≤_};
-ghost use Rattle.grid.specs.Paths.{fromSouth, lastOf, lastPoint, pointAt, side, turn};
+ghost use Rattle.grid.specs.Paths.{fromSouth, lastOf, lastPoint, pointAt, side, turn, turned};
 ghost use Rattle.grid.specs.Tracks.{PointOf};
 use super::kinds::Approach;
 use super::kinds::Body;
@@ -87,6 +87,21 @@ fn quarter_turn(lanes: u32, p: Point) -> Point
     }
 }
 
+// The point of the path from the south, as it lies for this approach.
+fn turned_to(lanes: u32, approach: Approach, p: Point) -> Point
+    requires few { ⌜ lanes ≤ 2 ⌝ }
+    requires x { ⌜ p .x ≤ side lanes + 8 ⌝ }
+    requires y { ⌜ p .y ≤ side lanes + 8 ⌝ }
+    ensures { λ r. ⌜ r ≡ turned lanes approach p ⌝ }
+{
+    match approach {
+        Approach::South => p,
+        Approach::West => quarter_turn(lanes, p),
+        Approach::North => quarter_turn(lanes, quarter_turn(lanes, p)),
+        Approach::East => quarter_turn(lanes, quarter_turn(lanes, quarter_turn(lanes, p))),
+    }
+}
+
 // Point `i` of the body's path.
 fn point_at(lanes: u32, body: Body, i: u32) -> Point
     requires some { ⌜ 1 ≤ lanes ⌝ }
@@ -96,12 +111,7 @@ fn point_at(lanes: u32, body: Body, i: u32) -> Point
     ensures { λ r. ⌜ r ≡ pointAt lanes body i ⌝ }
 {
     let p = from_south(lanes, body.lane, body.movement, i);
-    match body.approach {
-        Approach::South => p,
-        Approach::West => quarter_turn(lanes, p),
-        Approach::North => quarter_turn(lanes, quarter_turn(lanes, p)),
-        Approach::East => quarter_turn(lanes, quarter_turn(lanes, quarter_turn(lanes, p))),
-    }
+    turned_to(lanes, body.approach, p)
 }
 
 impl Path {

@@ -1,25 +1,42 @@
 // From a body to its path.
+ghost use mathlib.Core.Bool.{true};
 ghost use mathlib.Core.Path.{_≡_};
-ghost use Prim.Native.Nat.{_≤_, _+_};
-ghost use Rattle.grid.specs.Tables.{rowOf};
+ghost use Prim.Native.Nat.{_+_, _-_, _/_, _≤_};
+ghost use Rattle.grid.specs.Bodies.{fits};
 ghost use Rattle.grid.specs.Tracks.{PathOf};
 use super::junction::Junction;
 use super::kinds::Body;
+use super::lookup::points_tiles;
+use super::lookup::row_of;
 use super::path::Path;
 use super::points::last_of;
 
-// The row of the body's path in the table.
-fn row_of(lanes: u32, body: Body) -> usize
-    requires some { ⌜ 1 ≤ lanes ⌝ }
-    requires few { ⌜ lanes ≤ 2 ⌝ }
-    requires lane { ⌜ body .lane + 1 ≤ lanes ⌝ }
-    ensures { λ r. ⌜ r ≡ rowOf lanes body ⌝ }
+// How many ticks a vehicle takes for a distance at a speed, rounded up.
+fn ticks_for(distance: u32, speed: u32) -> u32
+    requires far { ⌜ distance ≤ 100 ⌝ }
+    requires moving { ⌜ 1 ≤ speed ⌝ }
+    requires slow { ⌜ speed ≤ 8 ⌝ }
+    ensures { λ r. ⌜ r ≡ (distance + speed - 1) / speed ⌝ }
 {
-    let lanes = lanes as usize;
-    12 * (lanes - 1)
-        + (2 + lanes) * body.approach as usize
-        + body.movement as usize
-        + body.lane as usize
+    (distance + speed - 1) / speed
+}
+
+// The path of a body that fits.
+fn work_out(junction: Junction, body: Body) -> Path
+    requires { ⌜ fits (junction .lanes) body ≡ true ⌝ }
+    ensures junction { λ r. ⌜ r .junction ≡ junction ⌝ }
+    ensures body { λ r. ⌜ r .body ≡ body ⌝ }
+{
+    let last_point = last_of(junction.lanes, body.movement);
+    let row = row_of(junction.lanes, body);
+    Path {
+        junction,
+        body,
+        last_point,
+        duration: ticks_for(last_point + body.length, body.speed),
+        tiles: points_tiles(junction, body, row, 0, last_point),
+        row,
+    }
 }
 
 impl Path {
@@ -30,15 +47,6 @@ impl Path {
         if !body.fits(junction) {
             return None;
         }
-        let last_point = last_of(junction.lanes, body.movement);
-        let duration = (last_point + body.length + body.speed - 1) / body.speed;
-        let row = row_of(junction.lanes, body);
-        Some(Path {
-            junction,
-            body,
-            last_point,
-            duration,
-            row,
-        })
+        Some(work_out(junction, body))
     }
 }

@@ -1,7 +1,7 @@
 // The cases in which a call is turned away, by the place that checks.
 
 // A junction cannot be made.
-#[derive(Clone, Copy, PartialEq, Eq, Debug)]
+#[derive(Clone, Copy)]
 pub enum JunctionFault {
     // an approach has neither 1 nor 2 lanes
     Lanes = 1,
@@ -10,7 +10,7 @@ pub enum JunctionFault {
 }
 
 // A run call is turned away.
-#[derive(Clone, Copy, PartialEq, Eq, Debug)]
+#[derive(Clone, Copy)]
 pub enum CallFault {
     // the policy's clock or junction is not the run's, or at open the policy is not new
     Policy = 4,
@@ -48,7 +48,7 @@ pub enum CallFault {
 
 // Why a request for a reservation is rejected, but for a clash. A gate of a client's own policy may
 // give any of these; the two without a meaning here are for such gates.
-#[derive(Clone, Copy, PartialEq, Eq, Debug)]
+#[derive(Clone, Copy)]
 pub enum Reason {
     // a request of this name stands
     NameStands = 29,
@@ -71,14 +71,14 @@ pub enum Reason {
 }
 
 // The name of a request: its vehicle, and the number that the vehicle gave it.
-#[derive(Clone, Copy, PartialEq, Eq, Debug)]
+#[derive(Clone, Copy)]
 pub struct Name {
     pub vehicle: u32,
     pub number: u32,
 }
 
 // A policy's refusal of a request.
-#[derive(Clone, Copy, PartialEq, Eq, Debug)]
+#[derive(Clone, Copy)]
 pub enum Denial {
     Because(Reason),
     // a standing request of another vehicle clashes, and this is the earliest such
@@ -86,7 +86,7 @@ pub enum Denial {
 }
 
 // A line is no message.
-#[derive(Clone, Copy, PartialEq, Eq, Debug)]
+#[derive(Clone, Copy)]
 pub enum LineFault {
     // it is empty, or longer than 64 bytes
     Length = 40,
@@ -99,14 +99,14 @@ pub enum LineFault {
 }
 
 // A line cannot be written.
-#[derive(Clone, Copy, PartialEq, Eq, Debug)]
+#[derive(Clone, Copy)]
 pub enum WriteFault {
     // the memory is too short
     Room = 44,
 }
 
 // Any refusal.
-#[derive(Clone, Copy, PartialEq, Eq, Debug)]
+#[derive(Clone, Copy)]
 pub enum Refusal {
     Making(JunctionFault),
     Call(CallFault),

@@ -1,36 +1,36 @@
 -- What the answers on two footprints tell besides. Assumes nothing.
 use mathlib.Core.Path.{_≡_, sym, ap, ap₂, _∙_}
 use mathlib.Core.Bool.{Bool, true, false, _&&_}
-use Rattle.std.proofs.shelf.Tests.{and-from, and-left, and-parts}
+use Rattle.std.proofs.shelf.Tests.{and-left}
+use Rattle.grid.specs.declared.junction.Junction.{Junction}
 use Rattle.grid.specs.Sets.{hasTile}
 use Rattle.grid.specs.Some.{some}
 use Rattle.grid.specs.Steps.{pathTouches}
 use Rattle.grid.proofs.Somes.{some-tests}
 use Rattle.reservation.specs.declared.footprint.Footprint.{Footprint}
-use Rattle.reservation.specs.Cells.{locks, pathsMeet, sameJunction, share}
+use Rattle.reservation.specs.declared.request.Request.{Request}
+use Rattle.reservation.specs.Cells.{locks, pathsMeet, share}
 use Rattle.reservation.specs.Meetings.{Locks, Shares}
 use Rattle.reservation.proofs.Laws.{locks-symmetric, share-found, share-from, share-locks, share-symmetric}
 
-module _ (f g : Footprint) (r : Bool) where
-  pub shares : r ≡ (sameJunction (f .junction) (g .junction) && share (f .junction) (f .request) (g .request)) → Shares f g r
-  shares answer = record {
-    answer = answer;
-    cell = λ one. (
-      λ e. share-found (f .junction) (f .request) (g .request) (and-parts _ (share (f .junction) (f .request) (g .request)) (sym answer ∙ e) .1),
-      λ w. answer ∙ and-from _ _ one (share-from (f .junction) (f .request) (g .request) w),
-    );
-    symmetric = share-symmetric (f .junction) (f .request) (g .request);
+module _ (j : Junction) (p q : Request) (answer : Bool) where
+  pub shares : answer ≡ share j p q → Shares j p q answer
+  shares told = record {
+    told = told;
+    cell = (λ e. share-found j p q (sym told ∙ e), λ w. told ∙ share-from j p q w);
+    symmetric = told ∙ share-symmetric j p q;
   }
 
-  pub locking : r ≡ (sameJunction (f .junction) (g .junction) && locks (f .junction) (f .request) (g .request)) → Locks f g r
-  locking answer = record {
-    answer = answer;
-    covers = share-locks (f .junction) (f .request) (g .request);
-    symmetric = locks-symmetric (f .junction) (f .request) (g .request);
+  pub locking : answer ≡ locks j p q → Locks j p q answer
+  locking told = record {
+    told = told;
+    covers = λ e. told ∙ share-locks j p q e;
+    symmetric = told ∙ locks-symmetric j p q;
   }
 
 -- the tiles of the two whole paths have one in common exactly where the paths do
-pub paths-meet : (f g : Footprint) → f .junction ≡ g .junction → some 64 (λ tile. hasTile (f .whole) tile && hasTile (g .whole) tile) ≡ pathsMeet (f .junction) (f .request) (g .request)
+pub paths-meet : (f g : Footprint) → f .junction ≡ g .junction
+    → some 64 (λ tile. hasTile (f .whole) tile && hasTile (g .whole) tile) ≡ pathsMeet (f .junction) (f .request) (g .request)
 paths-meet f g one = some-tests 64 _ _ (λ tile. ap₂ _&&_ (f .crosses tile) (g .crosses tile ∙ ap (λ j. pathTouches (j .lanes) (g .request .body) tile) (sym one)))
 
 -- the answer of a second test, behind a first that passed, and of a first that failed

@@ -1,32 +1,33 @@
 // The cells of a request.
-ghost use mathlib.Core.Bool.{true};
 ghost use mathlib.Core.Path.{_≡_};
-ghost use Prim.Native.Nat.{ℕ, _≤_};
-ghost use Rattle.grid.specs.Sets.{Exactly, hasTile};
-ghost use Rattle.reservation.specs.Cells.{Holds, has};
-ghost use Rattle.reservation.specs.Requests.{firstTick, lastTick};
+ghost use Rattle.reservation.specs.Meetings.{CellsAt};
+ghost use Rattle.reservation.specs.Requests.{lastTick};
 use super::footprint::Footprint;
 use grid::tiles::TileSet;
 
 impl Footprint {
-    // The tiles whose cells at the tick the request has. They lie in its span, and hold every step
-    // that is at most a buffer away.
-    pub fn tiles_at(&self, tick: u32) -> TileSet
-        ensures cells { λ r. ⌜ Exactly r (λ tile. has (now (self .entry) .junction) (now (self .entry) .request) tile tick) ⌝ }
-        ensures span { λ r. ⌜ ((tile : ℕ) → hasTile r tile ≡ true → (firstTick (now (self .entry) .junction) (now (self .entry) .request) ≤ tick) × (tick ≤ lastTick (now (self .entry) .junction) (now (self .entry) .request))) ⌝ }
-        ensures steps { λ r. ⌜ ((s tile : ℕ) → Holds (now (self .entry) .junction) (now (self .entry) .request) s tile tick → hasTile r tile ≡ true) ⌝ }
+    // The word of the tiles at the tick.
+    fn word_at(&self, tick: u32) -> u64
+        ensures { λ r. ⌜ CellsAt (now (self .entry) .junction) (now (self .entry) .request) tick r ⌝ }
     {
         let shifted = tick as u64 + self.junction.buffer as u64;
         let entry = self.request.entry as u64;
         if shifted < entry {
-            return TileSet { bits: 0 };
+            return 0;
         }
         let at = shifted - entry;
         if at >= self.duration as u64 + 2 * self.junction.buffer as u64 {
-            return TileSet { bits: 0 };
+            return 0;
         }
+        self.words[at as usize]
+    }
+
+    // The tiles whose cells at the tick the request has.
+    pub fn tiles_at(&self, tick: u32) -> TileSet
+        ensures { λ r. ⌜ CellsAt (now (self .entry) .junction) (now (self .entry) .request) tick (r .bits) ⌝ }
+    {
         TileSet {
-            bits: self.words[at as usize],
+            bits: self.word_at(tick),
         }
     }
 

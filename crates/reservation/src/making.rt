@@ -48,7 +48,7 @@ impl Footprint {
             junction,
             request: *request,
             duration: path.duration,
-            whole: path.tiles(),
+            whole: path.tiles,
             words: sweep(&path),
         })
     }

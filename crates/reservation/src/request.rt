@@ -2,12 +2,10 @@
 ghost use mathlib.Core.Path.{_≡_};
 ghost use Rattle.reservation.specs.Requests.{nameOf};
 use grid::kinds::Body;
-use grid::kinds::BodyDebug;
-use grid::kinds::BodyPartialEq;
 use refusal::kinds::Name;
 
 // To cross from the tick `entry` on. Any numbers may stand here: `Footprint::of` checks them.
-#[derive(Clone, Copy, PartialEq, Eq, Debug)]
+#[derive(Clone, Copy)]
 pub struct Request {
     pub vehicle: u32,
     // the vehicle's own number of this request

@@ -2,8 +2,8 @@
 ghost use mathlib.Core.Bool.{true};
 ghost use mathlib.Core.Path.{_≡_};
 ghost use Rattle.grid.specs.Some.{some};
-ghost use Rattle.reservation.specs.Cells.{both, locks, sameJunction, share, spansMeet};
-ghost use Rattle.reservation.specs.Meetings.{Locks, Shares};
+ghost use Rattle.reservation.specs.Cells.{both, sameJunction, spansMeet};
+ghost use Rattle.reservation.specs.Meetings.{Locks, OfOne, Shares};
 use super::footprint::Footprint;
 use grid::junction::Junction;
 
@@ -26,7 +26,7 @@ impl Footprint {
     // Whether they share a cell at some tick.
     fn share_any(&self, other: &Footprint) -> bool
         requires { ⌜ sameJunction (now self .junction) (now other .junction) ≡ true ⌝ }
-        ensures { λ r. ⌜ r ≡ share (now (self .entry) .junction) (now (self .entry) .request) (now (other .entry) .request) ⌝ }
+        ensures { λ r. ⌜ Shares (now (self .entry) .junction) (now (self .entry) .request) (now (other .entry) .request) r ⌝ }
     {
         let later = self.request.entry.max(other.request.entry);
         let first = later.saturating_sub(self.junction.buffer);
@@ -52,22 +52,29 @@ impl Footprint {
     // Whether the two paths touch a common tile, and the spans overlap.
     fn lock_any(&self, other: &Footprint) -> bool
         requires { ⌜ sameJunction (now self .junction) (now other .junction) ≡ true ⌝ }
-        ensures { λ r. ⌜ r ≡ locks (now (self .entry) .junction) (now (self .entry) .request) (now (other .entry) .request) ⌝ }
+        ensures { λ r. ⌜ Locks (now (self .entry) .junction) (now (self .entry) .request) (now (other .entry) .request) r ⌝ }
     {
         self.whole.meets(other.whole) && self.spans_meet(other)
     }
 
-    // Whether the two requests share a cell. Requests at different junctions share none.
-    pub fn shares_cell(&self, other: &Footprint) -> bool
-        ensures { λ r. ⌜ Shares (now (self .entry)) (now (other .entry)) r ⌝ }
+    // Whether the two requests share a cell; nothing where they are not of one junction.
+    pub fn shares_cell(&self, other: &Footprint) -> Option<bool>
+        ensures { λ r. ⌜ OfOne (now (self .entry) .junction) (now (other .entry) .junction) (Shares (now (self .entry) .junction) (now (self .entry) .request) (now (other .entry) .request)) r ⌝ }
     {
-        same_junction(self.junction, other.junction) && self.share_any(other)
+        if !same_junction(self.junction, other.junction) {
+            return None;
+        }
+        Some(self.share_any(other))
     }
 
-    // Whether their paths touch a common tile and their spans overlap. At different junctions they do not.
-    pub fn locks(&self, other: &Footprint) -> bool
-        ensures { λ r. ⌜ Locks (now (self .entry)) (now (other .entry)) r ⌝ }
+    // Whether their paths touch a common tile and their spans overlap; nothing where they are not of one
+    // junction.
+    pub fn locks(&self, other: &Footprint) -> Option<bool>
+        ensures { λ r. ⌜ OfOne (now (self .entry) .junction) (now (other .entry) .junction) (Locks (now (self .entry) .junction) (now (self .entry) .request) (now (other .entry) .request)) r ⌝ }
     {
-        same_junction(self.junction, other.junction) && self.lock_any(other)
+        if !same_junction(self.junction, other.junction) {
+            return None;
+        }
+        Some(self.lock_any(other))
     }
 }

@@ -42,15 +42,23 @@ fn right_turns(rt: &impl Print, junction: Junction) -> Result<(), AnyError> {
     let south = entering(junction, car(Approach::South, Movement::Right), 3)?;
     let north = entering(junction, car(Approach::North, Movement::Right), 3)?;
     let west = entering(junction, car(Approach::West, Movement::Through), 3)?;
-    let shared = some_or_no(south.whole.meets(north.whole));
+    let shared = a_or_no(south.whole.meets(north.whole));
     println!(rt, "S right and N right share {shared} tile")?;
-    let shared = some_or_no(south.whole.meets(west.whole));
+    let shared = a_or_no(south.whole.meets(west.whole));
     println!(rt, "S right and W through share {shared} tile")?;
     Ok(())
 }
 
-fn some_or_no(there: bool) -> &'static str {
-    if there { "some" } else { "no" }
+fn a_or_no(there: bool) -> &'static str {
+    if there { "a" } else { "no" }
+}
+
+// The answer on two requests of one junction.
+fn told(answer: Option<bool>) -> Result<bool, AnyError> {
+    match answer {
+        Some(answer) => Ok(answer),
+        None => Err("the requests are not of one junction".into()),
+    }
 }
 
 fn cells(
@@ -62,7 +70,7 @@ fn cells(
 ) -> Result<(), AnyError> {
     let first = entering(junction, car(Approach::South, Movement::Through), 3)?;
     let second = entering(junction, car(approach, Movement::Through), entry)?;
-    let shared = some_or_no(first.shares_cell(&second));
+    let shared = a_or_no(told(first.shares_cell(&second))?);
     println!(
         rt,
         "S through entering at 3 and {from} through entering at {entry} share {shared} cell"
@@ -74,7 +82,7 @@ fn lock_book(rt: &impl Print, junction: Junction, entry: u32) -> Result<(), AnyE
     let body = car(Approach::South, Movement::Through);
     let first = entering(junction, body, 3)?;
     let second = entering(junction, body, entry)?;
-    let clash = if first.locks(&second) {
+    let clash = if told(first.locks(&second))? {
         "clash"
     } else {
         "do not clash"

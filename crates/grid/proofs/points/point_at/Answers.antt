@@ -6,18 +6,6 @@ pub from-south-p-requires : need.from-south-p-requires
 unfolding lastPoint
 from-south-p-requires c κs = search needs
 
-pub returns-in-South : need.returns-in-South
+pub returns : need.returns
 unfolding pointAt
-returns-in-South c = search needs
-
-pub returns-in-West : need.returns-in-West
-unfolding pointAt
-returns-in-West c = search needs
-
-pub returns-in-North : need.returns-in-North
-unfolding pointAt
-returns-in-North c = search needs
-
-pub returns-in-East : need.returns-in-East
-unfolding pointAt
-returns-in-East c = search needs
+returns c = search needs

@@ -1,7 +1,9 @@
 use mathlib.Core.Path.{_≡_, sym, ap, _∙_}
+use mathlib.Core.Bool.{true, false}
 use native.Mathlib.Omega.{arith}
 use Rattle.reservation.specs.Requests.{lastTick}
 use Rattle.reservation.proofs.Laws.{before-one, one-junction, share-at, share-none}
+use Rattle.reservation.proofs.Meet.{shares}
 use Rattle.reservation.proofs.Ranges.{range-parts}
 use Rattle.reservation.proofs.footprint.Footprint.share_any.Needs as need
 
@@ -19,7 +21,8 @@ loop-tick-holds c t below =
 pub returns-then-share-at : need.returns-then-share-at
 returns-then-share-at c =
     let f = c .args .self .now in
-    sym (share-at (f .junction) (f .request) (c .args .other .now .request) (c .loop-tick .tick) (sym (c .if-share-at .ensures tt)))
+    let q = c .args .other .now .request in
+    shares (f .junction) (f .request) q true (sym (share-at (f .junction) (f .request) q (c .loop-tick .tick) (sym (c .if-share-at .ensures tt))))
 
 pub returns : need.returns
 returns c =
@@ -27,4 +30,5 @@ returns c =
     let g = c .args .other .now in
     let one = one-junction (f .junction) (g .junction) (c .pre) in
     let end : c .last-tick-2 .result ≡ lastTick (f .junction) (g .request) = c .last-tick-2 .ensures .answer ∙ ap (λ k. lastTick k (g .request)) (sym one) in
-    sym (share-none (f .junction) (f .request) (g .request) (c .loop-tick .tick) (c .loop-tick .inv) (omega arith))
+    shares (f .junction) (f .request) (g .request) false
+    (sym (share-none (f .junction) (f .request) (g .request) (c .loop-tick .tick) (c .loop-tick .inv) (omega arith)))
