@@ -2,7 +2,7 @@
 ghost use mathlib.Core.Path.{_≡_};
 ghost use lib.ListN.{length};
 ghost use Rattle.reservation.specs.Footprints.{Swept};
-ghost use Rattle.reservation.specs.Made.{FootprintOf};
+ghost use Rattle.reservation.specs.Made.{FootprintOf, RequestPath};
 ghost use Rattle.reservation.specs.Requests.{numbersFit};
 use super::footprint::Footprint;
 use super::request::Request;
@@ -35,15 +35,24 @@ fn sweep(path: &Path) -> [u64; 47]
     words
 }
 
+impl Request {
+    // The path of the request's body, if all numbers of the request are in their ranges.
+    pub fn path(&self, junction: Junction) -> Option<Path>
+        ensures answer { λ r. ⌜ RequestPath junction (now (self .entry)) r ⌝ }
+    {
+        if !numbers_fit(self) {
+            return None;
+        }
+        Path::of(junction, self.body)
+    }
+}
+
 impl Footprint {
-    // The footprint of the request, if its numbers are in their ranges and its body fits the junction.
+    // The footprint of the request, if all its numbers are in their ranges.
     pub fn of(junction: Junction, request: &Request) -> Option<Footprint>
         ensures answer { λ r. ⌜ FootprintOf junction (now (request .entry)) r ⌝ }
     {
-        if !numbers_fit(request) {
-            return None;
-        }
-        let path = Path::of(junction, request.body)?;
+        let path = request.path(junction)?;
         Some(Footprint {
             junction,
             request: *request,
