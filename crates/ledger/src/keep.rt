@@ -2,7 +2,7 @@
 use refusal::kinds::Name;
 
 #[derive(Clone, Copy)]
-pub enum Keep {
+pub(crate) enum Keep {
     // all but those of this name
     Except(Name),
     // those whose last tick is not below this one

@@ -21,7 +21,7 @@ fn is_named(one: &Standing, name: Name) -> bool
 }
 
 // The first of that name.
-pub fn first_named(standing: &[Standing], name: Name) -> Option<Standing>
+pub(crate) fn first_named(standing: &[Standing], name: Name) -> Option<Standing>
     ensures first { λ r. ⌜ r ≡ firstNamed name (now (standing .entry)) ⌝ }
     ensures absent { λ r. ⌜ BySome r (kept-by (other name) (now (standing .entry)) ≡ now (standing .entry)) (λ _. Unit {0}) ⌝ }
 {
@@ -34,7 +34,7 @@ pub fn first_named(standing: &[Standing], name: Name) -> Option<Standing>
 }
 
 // The entry tick of the first of that name.
-pub fn entry_of(standing: &[Standing], name: Name) -> Option<u32>
+pub(crate) fn entry_of(standing: &[Standing], name: Name) -> Option<u32>
     ensures { λ r. ⌜ r ≡ found name (requests (now (standing .entry))) ⌝ }
 {
     match first_named(standing, name) {
@@ -44,7 +44,7 @@ pub fn entry_of(standing: &[Standing], name: Name) -> Option<u32>
 }
 
 // The i-th request, from 1.
-pub fn request_at(standing: &[Standing], i: u32) -> Option<Request>
+pub(crate) fn request_at(standing: &[Standing], i: u32) -> Option<Request>
     ensures { λ r. ⌜ r ≡ numbered (requests (now (standing .entry))) i ⌝ }
 {
     if i == 0 || i as usize > standing.len() {
@@ -54,7 +54,7 @@ pub fn request_at(standing: &[Standing], i: u32) -> Option<Request>
 }
 
 // Puts one at the end, and says which tick is the soonest then.
-pub fn append(standing: &mut Vec<Standing>, soonest: u32, one: Standing) -> u32
+pub(crate) fn append(standing: &mut Vec<Standing>, soonest: u32, one: Standing) -> u32
     requires room { ⌜ vec-len (now standing) < vec-cap (now standing) ⌝ }
     requires sooner { ⌜ Sooner soonest (vec-items (now standing)) ⌝ }
     ensures items { λ _. ⌜ vec-items (now (standing .exit)) ≡ vec-items (now (standing .entry)) ++ one ∷ [] ⌝ }
@@ -77,7 +77,7 @@ fn is_kept(keep: Keep, one: &Standing) -> bool
 }
 
 // Takes out all others, in one pass, and says which tick is the soonest then.
-pub fn retain(standing: &mut Vec<Standing>, keep: Keep) -> u32
+pub(crate) fn retain(standing: &mut Vec<Standing>, keep: Keep) -> u32
     ensures items { λ _. ⌜ vec-items (now (standing .exit)) ≡ kept-by (stays keep) (vec-items (now (standing .entry))) ⌝ }
     ensures stood { λ _. ⌜ ((s : Standing) → Has (vec-items (now (standing .exit))) s → Has (vec-items (now (standing .entry))) s) ⌝ }
     ensures len { λ _. ⌜ vec-len (now (standing .exit)) ≤ vec-len (now (standing .entry)) ⌝ }
