@@ -5,6 +5,8 @@ use mathlib.Core.List.{List, [], _∷_, _++_}
 use Prim.Native.Nat.{ℕ, zero, suc}
 use lib.Dec.{eqb, lit≤}
 use Rattle.std.specs.shelf.Lists.{kept-by}
+use Rattle.std.specs.declared.option.Option.{Option}
+use Rattle.std.specs.declared.option.Option.the-variants.{Some, None}
 use Rattle.std.specs.declared.result.Result.{Result}
 use Rattle.std.specs.declared.result.Result.the-variants.{Ok, Err}
 use Rattle.grid.specs.declared.junction.Junction.{Junction}
@@ -16,8 +18,10 @@ use Rattle.grid.specs.declared.kinds.Body.{Body}
 use Rattle.grid.specs.Paths.{lastPoint, pointTouches}
 use Rattle.grid.specs.Steps.{durationOf}
 use Rattle.refusal.specs.declared.kinds.CallFault.{CallFault}
+use Rattle.refusal.specs.declared.kinds.Reason.{Reason}
 use Rattle.refusal.specs.declared.kinds.Refusal.the-variants.{Call}
-use Rattle.refusal.specs.Numbers.{numberOf}
+use Rattle.refusal.specs.Numbers.{numberOf, reasonNumber}
+use Rattle.layers.specs.Gates.{stopGate}
 use Rattle.reservation.specs.declared.request.Request.{Request}
 use Rattle.reservation.specs.Cells.{locks, pathsMeet, share}
 use Rattle.reservation.specs.Entries.{entryRow}
@@ -54,6 +58,15 @@ numbered (Err fault) = numberOf (Call fault)
 abbrev pub told : ℕ → ℕ
 told e = numbered (entryRow small (car South Through) 0 8 e)
 
+-- the number that a gate gives, 0 where it is open
+abbrev pub gateNumber : Option Reason → ℕ
+gateNumber None = 0
+gateNumber (Some g) = reasonNumber g
+
+-- a request at a distance from the line
+abbrev pub away : ℕ → Request
+away d = record { vehicle = 1; number = 1; body = car South Through; distance = d; entry = 3 }
+
 abbrev pub worked : List Bool
 worked =
     -- the last points of the paths
@@ -86,6 +99,9 @@ worked =
     ∷ eqb (told 3) 0
     ∷ eqb (told 119) 0
     ∷ eqb (told 120) 13
+    -- Stop line lets pass who is at the line, and refuses who is 1 unit away
+    ∷ eqb (gateNumber (stopGate (away 0))) 0
+    ∷ eqb (gateNumber (stopGate (away 1))) 31
     ∷ []
 
 abbrev pub every : List Bool → Bool

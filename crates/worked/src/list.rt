@@ -14,5 +14,5 @@ pub fn statements() -> u32
     ensures count { λ r. ⌜ r ≡ length worked ⌝ }
 {
     hold();
-    23
+    25
 }

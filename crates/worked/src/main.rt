@@ -6,10 +6,17 @@ use grid::kinds::Approach;
 use grid::kinds::Body;
 use grid::kinds::Movement;
 use grid::path::Path;
+use layers::stop_line::StopLine;
+use layers::stop_line::StopLinePolicy;
+use lock_book::book::LockBook;
+use lock_book::policy_of::LockBookPolicy;
+use policy::policy::Policy;
+use refusal::kinds::Denial;
 use refusal::kinds::Refusal;
 use reservation::entries::check_entry;
 use reservation::footprint::Footprint;
 use reservation::request::Request;
+use std::alloc::Global;
 use std::error::AnyError;
 
 // A vehicle of length 10 and speed 4 in lane 0.
@@ -23,16 +30,20 @@ fn car(approach: Approach, movement: Movement) -> Body {
     }
 }
 
-// Its footprint when it enters at the tick.
-fn entering(junction: Junction, body: Body, entry: u32) -> Result<Footprint, AnyError> {
-    let request = Request {
-        vehicle: 1,
+// A request of a vehicle at a distance, to enter at the tick.
+fn request(vehicle: u32, body: Body, distance: u32, entry: u32) -> Request {
+    Request {
+        vehicle,
         number: 1,
         body,
-        distance: 8,
+        distance,
         entry,
-    };
-    match Footprint::of(junction, &request) {
+    }
+}
+
+// Its footprint when it enters at the tick.
+fn entering(junction: Junction, body: Body, entry: u32) -> Result<Footprint, AnyError> {
+    match Footprint::of(junction, &request(1, body, 8, entry)) {
         Some(footprint) => Ok(footprint),
         None => Err("the request is out of range".into()),
     }
@@ -78,20 +89,76 @@ fn cells(
     Ok(())
 }
 
-fn lock_book(rt: &impl Print, junction: Junction, entry: u32) -> Result<(), AnyError> {
+fn paths(rt: &impl Print, junction: Junction, entry: u32) -> Result<(), AnyError> {
     let body = car(Approach::South, Movement::Through);
     let first = entering(junction, body, 3)?;
     let second = entering(junction, body, entry)?;
-    let clash = if told(first.locks(&second))? {
-        "clash"
+    let meet = if told(first.locks(&second))? {
+        "meet"
     } else {
-        "do not clash"
+        "do not meet"
     };
     println!(
         rt,
-        "in a lock book S through entering at 3 and at {entry} {clash}"
+        "the paths and spans of S through entering at 3 and at {entry} {meet}"
     )?;
     Ok(())
+}
+
+// Prints what a policy answered.
+fn say(rt: &impl Print, asked: &str, answer: Result<(), Denial>) -> Result<(), AnyError> {
+    match answer {
+        Ok(()) => println!(rt, "{asked}: granted")?,
+        Err(Denial::Because(reason)) => {
+            let number = reason.number();
+            println!(rt, "{asked}: refused with {number}")?
+        }
+        Err(Denial::Clash(name)) => {
+            let vehicle = name.vehicle;
+            let number = name.number;
+            println!(
+                rt,
+                "{asked}: refused with 34, request {number} of vehicle {vehicle} is in the way"
+            )?
+        }
+    }
+    Ok(())
+}
+
+// A lock book in which a vehicle from the south stands with entry 3 is asked for another.
+fn book_pair(
+    rt: &impl Print,
+    heap: Global,
+    junction: Junction,
+    entry: u32,
+) -> Result<(), AnyError> {
+    let mut book = LockBook::new(heap, junction)?;
+    let body = car(Approach::South, Movement::Through);
+    say(
+        rt,
+        "a new lock book is asked for S through entering at 3",
+        book.ask(&request(1, body, 8, 3)),
+    )?;
+    let asked = format!(heap, "then for another entering at {entry}")?;
+    say(rt, asked.as_str(), book.ask(&request(2, body, 8, entry)))
+}
+
+// Stop line over a lock book is asked from a distance.
+fn stop_line(
+    rt: &impl Print,
+    heap: Global,
+    junction: Junction,
+    distance: u32,
+) -> Result<(), AnyError> {
+    let below = LockBook::new(heap, junction)?;
+    let mut layer = StopLine { below };
+    let body = car(Approach::South, Movement::Through);
+    let asked = format!(heap, "Stop line is asked from {distance} units away")?;
+    say(
+        rt,
+        asked.as_str(),
+        layer.ask(&request(1, body, distance, 3)),
+    )
 }
 
 fn entry_row(rt: &impl Print, junction: Junction, entry: u32) -> Result<(), AnyError> {
@@ -114,7 +181,7 @@ fn entry_row(rt: &impl Print, junction: Junction, entry: u32) -> Result<(), AnyE
     Ok(())
 }
 
-fn run(rt: &impl Print) -> Result<(), AnyError> {
+fn run(rt: &impl Print, heap: Global) -> Result<(), AnyError> {
     let Ok(junction) = Junction::new(1, 1) else {
         return Err("no such junction".into());
     };
@@ -123,8 +190,12 @@ fn run(rt: &impl Print) -> Result<(), AnyError> {
     cells(rt, junction, "E", Approach::East, 13)?;
     cells(rt, junction, "S", Approach::South, 9)?;
     cells(rt, junction, "S", Approach::South, 10)?;
-    lock_book(rt, junction, 12)?;
-    lock_book(rt, junction, 13)?;
+    paths(rt, junction, 12)?;
+    paths(rt, junction, 13)?;
+    book_pair(rt, heap, junction, 12)?;
+    book_pair(rt, heap, junction, 13)?;
+    stop_line(rt, heap, junction, 0)?;
+    stop_line(rt, heap, junction, 1)?;
     for entry in [2, 3, 119, 120] {
         entry_row(rt, junction, entry)?;
     }
@@ -137,5 +208,5 @@ fn run(rt: &impl Print) -> Result<(), AnyError> {
 }
 
 fn main(rt: LibcRuntime) -> Result<(), AnyError> {
-    rt.report(run(&rt))
+    rt.report(run(&rt, rt.alloc()))
 }
