@@ -22,10 +22,11 @@ use Rattle.lock_book.specs.declared.book.LockBook.{LockBook}
 abbrev pub viewOf : LockBook → View
 viewOf b = record { junction = b .junction; clock = b .clock; ledger = requests (entries (b .ledger)) }
 
--- a lock book has no gate, and nothing else than what it tells: so what it tells says all of its calls
+-- there is no gate; a refusal leaves all as it was
 pub record Asks (b : LockBook) (r : Request) (a : Result (Unit {0}) Denial) (b′ : LockBook) : Type 0 where
   pub answer : Answer PathClash (viewOf b) None r a
   pub after : viewOf b′ ≡ asked (viewOf b) r a
+  pub spares : (d : Denial) → a ≡ Err d → b′ ≡ b
 
 pub record Releases (b : LockBook) (n : Name) (a : Bool) (b′ : LockBook) : Type 0 where
   pub answer : a ≡ isSome (found n (viewOf b .ledger))
