@@ -18,6 +18,8 @@ use reservation::footprint::Footprint;
 use reservation::request::Request;
 use std::alloc::Global;
 use std::error::AnyError;
+use tile_table::policy_of::TileTablePolicy;
+use tile_table::table::TileTable;
 
 // A vehicle of length 10 and speed 4 in lane 0.
 fn car(approach: Approach, movement: Movement) -> Body {
@@ -125,22 +127,49 @@ fn say(rt: &impl Print, asked: &str, answer: Result<(), Denial>) -> Result<(), A
     Ok(())
 }
 
-// A lock book in which a vehicle from the south stands with entry 3 is asked for another.
+// A new policy is asked for a vehicle from the south that enters at 3, and then for another.
+fn pair<P: Policy + Drop>(
+    rt: &impl Print,
+    heap: Global,
+    kind: &str,
+    policy: P,
+    from: &str,
+    approach: Approach,
+    entry: u32,
+) -> Result<(), AnyError> {
+    let mut policy = policy;
+    let first = car(Approach::South, Movement::Through);
+    let asked = format!(heap, "a new {kind} is asked for S through entering at 3")?;
+    say(rt, asked.as_str(), policy.ask(&request(1, first, 8, 3)))?;
+    let second = car(approach, Movement::Through);
+    let asked = format!(heap, "then for {from} through entering at {entry}")?;
+    say(
+        rt,
+        asked.as_str(),
+        policy.ask(&request(2, second, 8, entry)),
+    )
+}
+
+fn tile_pair(
+    rt: &impl Print,
+    heap: Global,
+    junction: Junction,
+    from: &str,
+    approach: Approach,
+    entry: u32,
+) -> Result<(), AnyError> {
+    let table = TileTable::new(heap, junction)?;
+    pair(rt, heap, "tile table", table, from, approach, entry)
+}
+
 fn book_pair(
     rt: &impl Print,
     heap: Global,
     junction: Junction,
     entry: u32,
 ) -> Result<(), AnyError> {
-    let mut book = LockBook::new(heap, junction)?;
-    let body = car(Approach::South, Movement::Through);
-    say(
-        rt,
-        "a new lock book is asked for S through entering at 3",
-        book.ask(&request(1, body, 8, 3)),
-    )?;
-    let asked = format!(heap, "then for another entering at {entry}")?;
-    say(rt, asked.as_str(), book.ask(&request(2, body, 8, entry)))
+    let book = LockBook::new(heap, junction)?;
+    pair(rt, heap, "lock book", book, "S", Approach::South, entry)
 }
 
 // Stop line over a lock book is asked from a distance.
@@ -190,6 +219,10 @@ fn run(rt: &impl Print, heap: Global) -> Result<(), AnyError> {
     cells(rt, junction, "E", Approach::East, 13)?;
     cells(rt, junction, "S", Approach::South, 9)?;
     cells(rt, junction, "S", Approach::South, 10)?;
+    tile_pair(rt, heap, junction, "E", Approach::East, 12)?;
+    tile_pair(rt, heap, junction, "E", Approach::East, 13)?;
+    tile_pair(rt, heap, junction, "S", Approach::South, 9)?;
+    tile_pair(rt, heap, junction, "S", Approach::South, 10)?;
     paths(rt, junction, 12)?;
     paths(rt, junction, 13)?;
     book_pair(rt, heap, junction, 12)?;
