@@ -1,5 +1,7 @@
 // How long the calls of a tile table take while 64 requests stand, at two lanes to an approach and a buffer of 4: times
 // on standard error, what was counted on standard output.
+#![tactic(auto)]
+
 mod dice;
 mod timing;
 mod traffic;

@@ -1,4 +1,6 @@
 // A bureau's own policy, a junction that lets one vehicle through at a time, and its own layer, a limit on length.
+#![tactic(auto)]
+
 pub mod by_span;
 mod judging;
 pub mod length_limit;

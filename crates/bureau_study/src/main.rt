@@ -1,5 +1,7 @@
 // A bureau's question: what does a junction lose that lets one vehicle through at a time? The same requests go to
 // the bureau's own policy and to the tile table, each below the bureau's limit on length.
+#![tactic(auto)]
+
 use anyhow::anyhow;
 use bureau::length_limit::LengthLimit;
 use bureau::one_at_a_time::OneAtATime;

@@ -1,4 +1,6 @@
 // The junction's grid: the paths over it, and the tiles that a vehicle touches on its way.
+#![tactic(auto)]
+
 pub mod bodies;
 pub mod junction;
 pub mod kinds;

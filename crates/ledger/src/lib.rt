@@ -1,4 +1,6 @@
 // The requests that stand at a junction, in the order granted.
+#![tactic(auto)]
+
 pub mod editing;
 mod keep;
 pub mod ledger;

@@ -1,3 +1,5 @@
 // Every refusal of the engine: an enum for each place that refuses, and the number of each case.
+#![tactic(auto)]
+
 pub mod kinds;
 pub mod numbers;

@@ -1,5 +1,7 @@
 // The program that plays a call script: it reads calls from standard input, a line each, makes them, and prints what
 // each answers.
+#![tactic(auto)]
+
 mod answer;
 mod command;
 mod game;

@@ -1,4 +1,6 @@
 // Requests for a reservation, and the cells that each takes: tiles at ticks.
+#![tactic(auto)]
+
 pub mod asking;
 pub mod cells;
 pub mod entries;

@@ -1,4 +1,6 @@
 // What a tick makes of the vehicles: their distances, their entries and their ends.
+#![tactic(auto)]
+
 mod distances;
 mod lanes;
 mod states;

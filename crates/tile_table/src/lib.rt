@@ -1,4 +1,6 @@
 // The tile table: a policy that stores, for each tile and each of the 128 ticks from the clock on, who has it.
+#![tactic(auto)]
+
 mod changes;
 mod choice;
 mod judging;

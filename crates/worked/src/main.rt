@@ -1,4 +1,6 @@
 // The junctions worked by hand, executed by calls of the library.
+#![tactic(auto)]
+
 mod list;
 
 use anyhow::anyhow;

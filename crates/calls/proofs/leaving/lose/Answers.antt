@@ -8,11 +8,11 @@ use Rattle.calls.proofs.leaving.lose.Goals as goal
 pub returns : goal.returns
 returns g c =
     let s = stage c.args.run.now c.args.vehicles.now c.args.mail.now c.args.policy.now in
-    let r = c.in-ok-admit-message.ensures.answer.by in
+    let r = c.in_ok-admit_message.ensures.answer.by in
     let whole = r.0 in
     let agrees = r.1.0 in
     let at = r.1.1.0 in
-    let rest = c.take-out.ensures.rest in
+    let rest = c.take_out.ensures.rest in
     record {
       answer = record {
         by = (
@@ -29,7 +29,7 @@ returns g c =
                     mail_are = refl;
                   })
                   (kept_part s.vehicles s.run.vehicles whole.vehicle-count)
-                  c.take-out.ensures.mail,
+                  c.take_out.ensures.mail,
             ),
           ),
         );

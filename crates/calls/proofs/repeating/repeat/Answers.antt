@@ -6,7 +6,7 @@ use Rattle.calls.proofs.repeating.repeat.Goals as goal
 pub returns : goal.returns
 returns g c =
     let s = stage c.args.run.now c.args.vehicles.now c.args.mail.now c.args.policy.now in
-    let r = c.in-ok-admit-message.ensures.answer.by in
+    let r = c.in_ok-admit_message.ensures.answer.by in
     let at = r.1.1.0 in
     record {
       answer = record {

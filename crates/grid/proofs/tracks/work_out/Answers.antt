@@ -7,35 +7,31 @@ use Rattle.grid.proofs.Fitting.{fits_parts}
 use Rattle.grid.proofs.Sweeps.{some_whole}
 use Rattle.grid.proofs.tracks.work_out.Goals as goal
 
-pub row-of-row-requires : goal.row-of-row-requires
-row-of-row-requires c =
+pub row_of-row-requires : goal.row_of-row-requires
+row_of-row-requires c =
     let fit = fits_parts c.args.junction.lanes c.args.body c.requires in
     record { some = c.args.junction.some; few = c.args.junction.few; lane = omega arith }
 
-pub overflow-add-last-point : goal.overflow-add-last-point
-overflow-add-last-point c = let fit = fits_parts c.args.junction.lanes c.args.body c.requires in omega arith
+pub overflow_add-last_point : goal.overflow_add-last_point
+overflow_add-last_point c = let fit = fits_parts c.args.junction.lanes c.args.body c.requires in omega arith
 
-pub ticks-for-requires : goal.ticks-for-requires
-ticks-for-requires c =
+pub ticks_for-requires : goal.ticks_for-requires
+ticks_for-requires c =
     let fit = fits_parts c.args.junction.lanes c.args.body c.requires in
     record { far = omega arith; moving = omega arith; slow = fit.slow }
 
-pub invariant-of-result : goal.invariant-of-result
+pub invariant_of-result : goal.invariant_of-result
 unfolding last_point_of duration_of path_touches
-invariant-of-result c =
+invariant_of-result c =
     let n = c.args.junction.lanes in
     let body = c.args.body in
-    let last = c.last-of-last-point.ensures.value in (
-      c.requires,
-      (
-        last,
-        (
-          c.ticks-for.ensures ∙ ap (λ p. (p + body.length + body.speed - 1) / body.speed) last,
-          (
-            λ tile. c.points-tiles.ensures tile ∙ some_whole (suc c.last-of-last-point.result) (λ i. point_touches n body i tile)
-                ∙ ap (λ p. some (suc p) (λ i. point_touches n body i tile)) last,
-            (c.row-of-row.ensures, tt),
-          ),
-        ),
-      ),
-    )
+    let last = c.last_of-last_point.ensures.value in
+    record {
+      fitting = c.requires;
+      ends = last;
+      lasts = c.ticks_for.ensures ∙ ap (λ p. (p + body.length + body.speed - 1) / body.speed) last;
+      crosses =
+          λ tile. c.points_tiles.ensures tile ∙ some_whole (suc c.last_of-last_point.result) (λ i. point_touches n body i tile)
+              ∙ ap (λ p. some (suc p) (λ i. point_touches n body i tile)) last;
+      stands = c.row_of-row.ensures;
+    }

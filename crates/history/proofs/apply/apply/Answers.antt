@@ -8,24 +8,24 @@ pub returns-in-Arrive : goal.returns-in-Arrive
 returns-in-Arrive g c =
     let m = g.P.Policy in
     record {
-      made = subst (λ x. Makes (conduct m.view m.asks m.releases m.advances) (stage c.args.run.now c.args.vehicles.now c.args.mail.now c.args.policy.now) x c.by-number.result (stage c.arrive.new.run c.arrive.new.vehicles c.args.mail.now c.args.policy.now))
-          (sym c.in-Arrive.is) (c.arrive.result, c.arrive.ensures.answer, c.by-number.ensures);
+      made = subst (λ x. Makes (conduct m.view m.asks m.releases m.advances) (stage c.args.run.now c.args.vehicles.now c.args.mail.now c.args.policy.now) x c.by_number.result (stage c.arrive.new.run c.arrive.new.vehicles c.args.mail.now c.args.policy.now))
+          (sym c.in-Arrive.is) (c.arrive.result, c.arrive.ensures.answer, c.by_number.ensures);
     }
 
 pub returns-in-Ask : goal.returns-in-Ask
 returns-in-Ask g c =
     let m = g.P.Policy in
     record {
-      made = subst (λ x. Makes (conduct m.view m.asks m.releases m.advances) (stage c.args.run.now c.args.vehicles.now c.args.mail.now c.args.policy.now) x c.by-number-in-Ask.result (stage c.ask.new.run c.ask.new.vehicles c.ask.new.mail c.args.policy.now))
-          (sym c.in-Ask.is) (c.ask.result, c.ask.ensures.answer, c.by-number-in-Ask.ensures);
+      made = subst (λ x. Makes (conduct m.view m.asks m.releases m.advances) (stage c.args.run.now c.args.vehicles.now c.args.mail.now c.args.policy.now) x c.by_number-in-Ask.result (stage c.ask.new.run c.ask.new.vehicles c.ask.new.mail c.args.policy.now))
+          (sym c.in-Ask.is) (c.ask.result, c.ask.ensures.answer, c.by_number-in-Ask.ensures);
     }
 
 pub returns-in-Change : goal.returns-in-Change
 returns-in-Change g c =
     let m = g.P.Policy in
     record {
-      made = subst (λ x. Makes (conduct m.view m.asks m.releases m.advances) (stage c.args.run.now c.args.vehicles.now c.args.mail.now c.args.policy.now) x c.by-number-in-Change.result (stage c.change.new.run c.change.new.vehicles c.change.new.mail c.args.policy.now))
-          (sym c.in-Change.is) (c.change.result, c.change.ensures.answer, c.by-number-in-Change.ensures);
+      made = subst (λ x. Makes (conduct m.view m.asks m.releases m.advances) (stage c.args.run.now c.args.vehicles.now c.args.mail.now c.args.policy.now) x c.by_number-in-Change.result (stage c.change.new.run c.change.new.vehicles c.change.new.mail c.args.policy.now))
+          (sym c.in-Change.is) (c.change.result, c.change.ensures.answer, c.by_number-in-Change.ensures);
     }
 
 pub returns-in-Cancel : goal.returns-in-Cancel

@@ -13,11 +13,11 @@ loop-call-init g c =
 pub loop-call-preserved : goal.loop-call-preserved
 loop-call-preserved g c =
     let m = g.P.Policy in (
-      omega (arith, c.push-reserved.ensures.len, c.loop-call.invariant.0),
-      c.push-reserved.ensures.capacity ∙ c.loop-call.invariant.1,
+      omega (arith, c.push_reserved.ensures.len, c.loop-call.invariant.0),
+      c.push_reserved.ensures.capacity ∙ c.loop-call.invariant.1,
       playing_more (conduct m.view m.asks m.releases m.advances)
           (stage c.args.run.now c.args.vehicles.now c.args.mail.now c.args.policy.now) c.args.calls.now
-          c.loop-call.call-index _ _ _ _ _ _ c.loop-call-test.true c.loop-call.invariant.2 c.apply.ensures.made c.push-reserved.ensures.items,
+          c.loop-call.call-index _ _ _ _ _ _ c.loop-call-test.true c.loop-call.invariant.2 c.apply.ensures.made c.push_reserved.ensures.items,
     )
 
 pub returns : goal.returns

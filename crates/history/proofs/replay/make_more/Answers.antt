@@ -3,8 +3,8 @@ use Rattle.invariant.proofs.Inv.{Lawful}
 use Rattle.history.proofs.Playing.{goes_on, stays}
 use Rattle.history.proofs.replay.make_more.Goals as goal
 
-pub returns-in-default : goal.returns-in-default
-returns-in-default g c =
+pub returns-in_default : goal.returns-in_default
+returns-in_default g c =
     let m = g.P.Policy in
     let laws = g.met.P.Policy in
     let k = conduct m.view m.asks m.releases m.advances in
@@ -34,6 +34,6 @@ returns g c =
     record {
       ran = goes_on m.clash k lawful m.marks laws.told
           (stage c.args.run.now c.args.vehicles.now c.args.mail.now c.args.policy.now)
-          (stage c.make-all.new.run c.make-all.new.vehicles c.make-all.new.mail c.make-all.new.policy)
-          c.args.calls.now _ c.make-all.ensures.ran;
+          (stage c.make_all.new.run c.make_all.new.vehicles c.make_all.new.mail c.make_all.new.policy)
+          c.args.calls.now _ c.make_all.ensures.ran;
     }

@@ -18,6 +18,6 @@ returns-in-Ok-open g c =
     } in
     record {
       answer = plays m.clash k lawful m.marks laws.told
-          c.args.vehicles.now c.make-all.new.vehicles c.args.mail.now c.make-all.new.mail c.args.policy.now c.make-all.new.policy
-          c.args.calls.now c.in-Ok-open.opened _ c.in-Ok-open.ensures.answer c.make-all.ensures.ran;
+          c.args.vehicles.now c.make_all.new.vehicles c.args.mail.now c.make_all.new.mail c.args.policy.now c.make_all.new.policy
+          c.args.calls.now c.in-Ok-open.opened _ c.in-Ok-open.ensures.answer c.make_all.ensures.ran;
     }

@@ -7,8 +7,8 @@ use Rattle.ledger.proofs.scan.append.Goals as goal
 pub returns : goal.returns
 returns c = record {
   items = search rules;
-  stood = λ s has. has_push_cases _ c.args.one s (subst (λ xs. Has xs s) c.push-reserved.ensures.items has);
+  stood = λ s has. has_push_cases _ c.args.one s (subst (λ xs. Has xs s) c.push_reserved.ensures.items has);
   len = search rules;
   room = search rules;
-  sooner = rw (c.push-reserved.ensures.items, c.min.ensures) (sooner_push c.args.soonest (vec_items c.args.standing.now) c.args.one c.requires.sooner);
+  sooner = rw (c.push_reserved.ensures.items, c.min.ensures) (sooner_push c.args.soonest (vec_items c.args.standing.now) c.args.one c.requires.sooner);
 }

@@ -3,15 +3,15 @@ use Rattle.ledger.specs.Standings.{first_of_name}
 use Rattle.ledger.proofs.Firsts.{first_here, first_more, first_none, none_named}
 use Rattle.ledger.proofs.scan.first_named.Goals as goal
 
-pub returns-then-is-named : goal.returns-then-is-named
-returns-then-is-named c = record {
-  first = sym (first_here c.args.name c.args.standing.now c.loop-one.one_Index _ c.loop-one-test.true (sym c.is-named.ensures ∙ c.if-is-named.true)) ∙ c.loop-one.invariant;
+pub returns-then-is_named : goal.returns-then-is_named
+returns-then-is_named c = record {
+  first = sym (first_here c.args.name c.args.standing.now c.loop-one.one_Index _ c.loop-one-test.true (sym c.is_named.ensures ∙ c.if-is_named.true)) ∙ c.loop-one.invariant;
   absent = tt;
 }
 
 pub loop-one-preserved : goal.loop-one-preserved
 loop-one-preserved c =
-    sym (first_more c.args.name c.args.standing.now c.loop-one.one_Index _ c.loop-one-test.true (sym c.is-named.ensures ∙ c.if-is-named.false)) ∙ c.loop-one.invariant
+    sym (first_more c.args.name c.args.standing.now c.loop-one.one_Index _ c.loop-one-test.true (sym c.is_named.ensures ∙ c.if-is_named.false)) ∙ c.loop-one.invariant
 
 pub returns : goal.returns
 returns c =

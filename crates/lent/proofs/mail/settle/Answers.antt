@@ -12,6 +12,6 @@ returns-in-Some c =
 pub returns-in-None : goal.returns-in-None
 returns-in-None c =
     record {
-      after = λ at. gone c.args.mail.now c.args.count c.args.message at c.args.reply c.in-None.is c.close-gap.new.mail c.close-gap.ensures;
+      after = λ at. gone c.args.mail.now c.args.count c.args.message at c.args.reply c.in-None.is c.close_gap.new.mail c.close_gap.ensures;
       same = λ out. absurd (out (omega arith, omega arith, omega arith));
     }

@@ -13,10 +13,10 @@ loop-rest-preserved c =
     let vehicle = c.args.vehicle in
     let k = c.lowest-tile.result in
     let low = c.lowest-tile.ensures in
-    let off = c.turned-off-rest.ensures.bits in
+    let off = c.turned_off-rest.ensures.bits in
     let long : length cells ≡ 8192 = omega arith in (
       λ tile below.
-          written_more cells tick vehicle k tile c.loop-rest.rest c.turned-off-rest.result long low.within low.on (off tile)
+          written_more cells tick vehicle k tile c.loop-rest.rest c.turned_off-rest.result long low.within low.on (off tile)
           ∙ c.loop-rest.invariant.0 tile below,
       others_again c.args.cells.now cells (set cells (place k tick) vehicle) tick c.loop-rest.invariant.1
           (others_set cells tick k vehicle low.within),

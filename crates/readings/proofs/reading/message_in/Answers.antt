@@ -10,7 +10,7 @@ use Rattle.readings.proofs.reading.message_in.Goals as goal
 pub unreachable-requires : goal.unreachable-requires
 unreachable-requires g c =
     let s = stage c.args.run.now c.args.vehicles.now c.args.mail.now c.args.policy.now in
-    let r = c.in-ok-admit-message.ensures.answer.by in
+    let r = c.in_ok-admit_message.ensures.answer.by in
     let at = r.1.1.0 in
     both_ways _ c.in-None.ensures.answer
     (subst (λ m. good_row m ≡ true) (sym (message_read s r.0 c.args.message _ at.0 at.1))
@@ -19,7 +19,7 @@ unreachable-requires g c =
 pub returns : goal.returns
 returns g c =
     let s = stage c.args.run.now c.args.vehicles.now c.args.mail.now c.args.policy.now in
-    let r = c.in-ok-admit-message.ensures.answer.by in
+    let r = c.in_ok-admit_message.ensures.answer.by in
     let at = r.1.1.0 in
     record {
       answer = record { by = (r.0, (r.1.0, (at, c.in-Some.ensures.answer ∙ message_read s r.0 c.args.message _ at.0 at.1))) };

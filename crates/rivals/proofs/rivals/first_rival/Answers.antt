@@ -10,13 +10,13 @@ pub loop-one-preserved : goal.loop-one-preserved
 loop-one-preserved g c =
     none_more (Rival g.C.Clashes.clash c.args.footprint.now.junction c.args.footprint.now.request) c.args.standing.now c.loop-one.one_Index _
     c.loop-one-test.true c.loop-one.invariant
-    (λ p. both_ways c.is-rival.result c.if-is-rival.false (c.is-rival.ensures.1 p))
+    (λ p. both_ways c.is_rival.result c.if-is_rival.false (c.is_rival.ensures.1 p))
 
-pub returns-then-is-rival : goal.returns-then-is-rival
-returns-then-is-rival g c = (
+pub returns-then-is_rival : goal.returns-then-is_rival
+returns-then-is_rival g c = (
   _,
   first_here (Rival g.C.Clashes.clash c.args.footprint.now.junction c.args.footprint.now.request) c.args.standing.now c.loop-one.one_Index _
-      c.loop-one-test.true c.loop-one.invariant (c.is-rival.ensures.0 c.if-is-rival.true),
+      c.loop-one-test.true c.loop-one.invariant (c.is_rival.ensures.0 c.if-is_rival.true),
   c.name.ensures.answer,
 )
 

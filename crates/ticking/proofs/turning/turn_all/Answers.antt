@@ -12,9 +12,9 @@ loop-i-preserved c = λ fit.
     let so_far = c.loop-i.invariant fit in
     let within : c.loop-i.i < length c.loop-i.vehicles = omega arith in
     let here = get_or_default c.loop-i.vehicles c.loop-i.i _ _ within in
-    let next : c.saturating-add-number.result ≡ c.loop-i.i + 1 = omega (arith, so_far.number_is) in
+    let next : c.saturating_add-number.result ≡ c.loop-i.i + 1 = omega (arith, so_far.number_is) in
     course_more c.args.junction c.args.clock c.args.vehicles.now c.args.mail.now c.args.sent fit c.loop-i.vehicles c.loop-i.mail c.loop-i.lanes.behind c.loop-i.count c.loop-i.number c.loop-i.i so_far
-    within c.loop-i.auto.vehicles c.loop-i.lanes.full _ c.pass.new.row here c.pass.new.lanes.behind c.pass.result c.pass.ensures c.saturating-add-number.result next
+    within c.loop-i.auto.vehicles c.loop-i.lanes.full _ c.pass.new.row here c.pass.new.lanes.behind c.pass.result c.pass.ensures c.saturating_add-number.result next
     c.loop-i.auto.mail c.if-pass.mail c.if-pass.count
     (elim c.if-pass.branch [
       | then-pass w ↦ simp (w.if-pass.true, w.mail-is, w.count-is) w.post-count.ensures

@@ -5,8 +5,8 @@ use Rattle.ledger.proofs.Requests.{has_request}
 use Rattle.tile_table.proofs.Covers.{covers_end, covers_more}
 use Rattle.tile_table.proofs.painting.paint_all.Goals as goal
 
-pub paint-picked-requires : goal.paint-picked-requires
-paint-picked-requires c =
+pub paint_picked-requires : goal.paint_picked-requires
+paint_picked-requires c =
     let xs = c.args.standing.now in
     let inside = has_request xs _ (has_get_or xs c.loop-one.one_Index _ c.loop-one-test.true) in
     record { ranged = c.requires.ranged _ inside; ahead = (c.requires.ahead _ inside).1 }
@@ -14,7 +14,7 @@ paint-picked-requires c =
 pub loop-one-preserved : goal.loop-one-preserved
 loop-one-preserved c tile t w =
     covers_more c.args.choice c.args.junction tile t c.args.standing.now c.loop-one.one_Index _
-    c.args.vehicle (mark c.loop-one.marks tile t) (mark c.paint-picked.new.marks tile t) c.loop-one-test.true (c.paint-picked.ensures tile t w)
+    c.args.vehicle (mark c.loop-one.marks tile t) (mark c.paint_picked.new.marks tile t) c.loop-one-test.true (c.paint_picked.ensures tile t w)
     ∙ c.loop-one.invariant tile t w
 
 pub returns : goal.returns

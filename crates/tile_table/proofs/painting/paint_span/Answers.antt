@@ -5,8 +5,8 @@ use Rattle.tile_table.proofs.Rings.{paint_first, paint_last, paint_more}
 use Rattle.tile_table.proofs.Spans.{after_last, before_first, last_small}
 use Rattle.tile_table.proofs.painting.paint_span.Goals as goal
 
-pub overflow-add-tick-end : goal.overflow-add-tick-end
-overflow-add-tick-end c =
+pub overflow_add-tick-end : goal.overflow_add-tick-end
+overflow_add-tick-end c =
     let f = c.args.footprint.now in
     omega (arith, last_small f.junction f.request f.ranged)
 
@@ -24,7 +24,7 @@ loop-tick-preserved c =
     let to : tick < c.args.clock + 128 = omega arith in
     paint_more c.args.clock tick c.args.vehicle (has f.junction f.request) c.args.marks.now c.loop-tick.marks c.put.new.self
     from to
-    (λ tile below. c.put.ensures.here tile below ∙ ap (λ b. cond b c.args.vehicle (mark c.loop-tick.marks tile tick)) (c.tiles-at.ensures.cells tile))
+    (λ tile below. c.put.ensures.here tile below ∙ ap (λ b. cond b c.args.vehicle (mark c.loop-tick.marks tile tick)) (c.tiles_at.ensures.cells tile))
     c.put.ensures.others
     c.loop-tick.invariant
 

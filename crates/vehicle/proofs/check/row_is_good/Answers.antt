@@ -3,10 +3,10 @@ use Rattle.std.proofs.Common.{arith}
 use Rattle.vehicle.specs.Rows.{good_row}
 use Rattle.vehicle.proofs.check.row_is_good.Goals as goal
 
-pub returns-then-numbers-are-good : goal.returns-then-numbers-are-good
+pub returns-then-numbers_are_good : goal.returns-then-numbers_are_good
 unfolding good_row
-returns-then-numbers-are-good c = grind (arith, nat_tests)
+returns-then-numbers_are_good c = grind (arith, nat_tests)
 
-pub returns-else-numbers-are-good : goal.returns-else-numbers-are-good
+pub returns-else-numbers_are_good : goal.returns-else-numbers_are_good
 unfolding good_row
-returns-else-numbers-are-good c = grind (arith, nat_tests)
+returns-else-numbers_are_good c = grind (arith, nat_tests)

@@ -8,7 +8,7 @@ use Rattle.vehicle_calls.proofs.arriving.arrive.Goals as goal
 pub returns : goal.returns
 returns g c =
     let s = stage c.args.run.now c.args.vehicles.now c.args.mail.now c.args.policy.now in
-    let r = c.in-ok-ready.ensures.answer.by in
+    let r = c.in_ok-ready.ensures.answer.by in
     let Clear : ℕ → Type 0 = λ k.
     IfSome (last_of_lane (lane_number_of c.args.body) (take k s.vehicles)) (λ last. place_behind_of last ≤ c.args.distance) in
     let all : s.run.vehicles - 0 ≡ s.run.vehicles = omega arith in
@@ -24,7 +24,7 @@ returns g c =
               (
                 free,
                 (
-                  subst Clear all (c.is-clear.ensures.0 c.if-not-is-clear.false),
+                  subst Clear all (c.is_clear.ensures.0 c.if-not-is_clear.false),
                   (
                     refl,
                     joined g.P.Policy.view s r.0 r.1.0 refl refl (arriving s.run.clock c.args.body c.args.distance) free refl refl,

@@ -7,40 +7,40 @@ use Rattle.lent.proofs.Tables.{refused}
 use Rattle.vehicle_calls.proofs.Vehicles.{asks_behind, asks_done, asks_refused, fitting}
 use Rattle.vehicle_calls.proofs.asking.ask.Goals as goal
 
-pub returns-in-err-row : goal.returns-in-err-row
-returns-in-err-row g c =
+pub returns-in_err-row : goal.returns-in_err-row
+returns-in_err-row g c =
     let p = err_from_is_err_and c.from-residual.result c.from-residual.ensures.1 in
-    record { answer = refused c.in-err-row.ensures.answer _ _ _ _ (p.1 ∙ ap Err p.2) refl }
+    record { answer = refused c.in_err-row.ensures.answer _ _ _ _ (p.1 ∙ ap Err p.2) refl }
 
-pub returns-then-not-is-lead : goal.returns-then-not-is-lead
-returns-then-not-is-lead g c =
+pub returns-then-not-is_lead : goal.returns-then-not-is_lead
+returns-then-not-is_lead g c =
     let m = g.P.Policy in
     let k = conduct m.view m.asks m.releases m.advances in
     let s = stage c.args.run.now c.args.vehicles.now c.args.mail.now c.args.policy.now in
-    let may = c.may-ask.ensures.0 c.if-not-may-ask.false in
+    let may = c.may_ask.ensures.0 c.if-not-may_ask.false in
     record {
-      answer = asks_behind k s c.args.vehicle _ c.in-ok-row.ensures.answer c.args.entry may
-          (λ lead. both_ways _ c.if-not-is-lead.true (c.is-lead.ensures.1 lead));
+      answer = asks_behind k s c.args.vehicle _ c.in_ok-row.ensures.answer c.args.entry may
+          (λ lead. both_ways _ c.if-not-is_lead.true (c.is_lead.ensures.1 lead));
     }
 
-pub may-send-requires : goal.may-send-requires
-may-send-requires g c =
+pub may_send-requires : goal.may_send-requires
+may_send-requires g c =
     let m = g.P.Policy in
     let k = conduct m.view m.asks m.releases m.advances in
     let s = stage c.args.run.now c.args.vehicles.now c.args.mail.now c.args.policy.now in
-    fitting k s c.args.vehicle _ c.in-ok-row.ensures.answer
+    fitting k s c.args.vehicle _ c.in_ok-row.ensures.answer
 
-pub returns-in-err-may-send : goal.returns-in-err-may-send
-returns-in-err-may-send g c =
+pub returns-in_err-may_send : goal.returns-in_err-may_send
+returns-in_err-may_send g c =
     let m = g.P.Policy in
     let k = conduct m.view m.asks m.releases m.advances in
     let s = stage c.args.run.now c.args.vehicles.now c.args.mail.now c.args.policy.now in
-    let p = err_from_is_err_and c.from-residual-in-err-may-send.result c.from-residual-in-err-may-send.ensures.1 in
-    let may = c.may-ask.ensures.0 c.if-not-may-ask.false in
-    let lead = c.is-lead.ensures.0 c.if-not-is-lead.false in
+    let p = err_from_is_err_and c.from-residual-in_err-may_send.result c.from-residual-in_err-may_send.ensures.1 in
+    let may = c.may_ask.ensures.0 c.if-not-may_ask.false in
+    let lead = c.is_lead.ensures.0 c.if-not-is_lead.false in
     record {
       answer = subst (Asks k s s c.args.vehicle c.args.entry) (sym (p.1 ∙ ap Err p.2))
-          (asks_refused k s c.args.vehicle _ c.in-ok-row.ensures.answer c.args.entry _ c.in-err-may-send.ensures may lead);
+          (asks_refused k s c.args.vehicle _ c.in_ok-row.ensures.answer c.args.entry _ c.in_err-may_send.ensures may lead);
     }
 
 pub returns : goal.returns
@@ -48,8 +48,8 @@ returns g c =
     let m = g.P.Policy in
     let k = conduct m.view m.asks m.releases m.advances in
     let s = stage c.args.run.now c.args.vehicles.now c.args.mail.now c.args.policy.now in
-    let may = c.may-ask.ensures.0 c.if-not-may-ask.false in
-    let lead = c.is-lead.ensures.0 c.if-not-is-lead.false in
+    let may = c.may_ask.ensures.0 c.if-not-may_ask.false in
+    let lead = c.is_lead.ensures.0 c.if-not-is_lead.false in
     record {
-      answer = asks_done k s c.args.vehicle _ c.in-ok-row.ensures.answer c.args.entry _ refl refl refl refl c.in-ok-may-send.ensures may lead;
+      answer = asks_done k s c.args.vehicle _ c.in_ok-row.ensures.answer c.args.entry _ refl refl refl refl c.in_ok-may_send.ensures may lead;
     }

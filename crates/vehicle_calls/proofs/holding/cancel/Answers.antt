@@ -10,5 +10,5 @@ returns g c =
     let s = stage c.args.run.now c.args.vehicles.now c.args.mail.now c.args.policy.now in
     let free : s.run.mail < length s.mail = omega arith in
     record {
-      answer = cancels_done k s c.args.vehicle _ c.in-ok-row.ensures.answer _ refl refl refl refl _ c.in-Some.ensures free;
+      answer = cancels_done k s c.args.vehicle _ c.in_ok-row.ensures.answer _ refl refl refl refl _ c.in-Some.ensures free;
     }

@@ -6,27 +6,27 @@ use Rattle.lent.proofs.Tables.{refused}
 use Rattle.vehicle_calls.proofs.Vehicles.{changes_done, changes_refused, fitting}
 use Rattle.vehicle_calls.proofs.holding.change.Goals as goal
 
-pub returns-in-err-row : goal.returns-in-err-row
-returns-in-err-row g c =
+pub returns-in_err-row : goal.returns-in_err-row
+returns-in_err-row g c =
     let p = err_from_is_err_and c.from-residual.result c.from-residual.ensures.1 in
-    record { answer = refused c.in-err-row.ensures.answer _ _ _ _ (p.1 ∙ ap Err p.2) refl }
+    record { answer = refused c.in_err-row.ensures.answer _ _ _ _ (p.1 ∙ ap Err p.2) refl }
 
-pub may-send-requires : goal.may-send-requires
-may-send-requires g c =
+pub may_send-requires : goal.may_send-requires
+may_send-requires g c =
     let m = g.P.Policy in
     let k = conduct m.view m.asks m.releases m.advances in
     let s = stage c.args.run.now c.args.vehicles.now c.args.mail.now c.args.policy.now in
-    fitting k s c.args.vehicle _ c.in-ok-row.ensures.answer
+    fitting k s c.args.vehicle _ c.in_ok-row.ensures.answer
 
-pub returns-in-err-may-send : goal.returns-in-err-may-send
-returns-in-err-may-send g c =
+pub returns-in_err-may_send : goal.returns-in_err-may_send
+returns-in_err-may_send g c =
     let m = g.P.Policy in
     let k = conduct m.view m.asks m.releases m.advances in
     let s = stage c.args.run.now c.args.vehicles.now c.args.mail.now c.args.policy.now in
-    let p = err_from_is_err_and c.from-residual-in-err-may-send.result c.from-residual-in-err-may-send.ensures.1 in
+    let p = err_from_is_err_and c.from-residual-in_err-may_send.result c.from-residual-in_err-may_send.ensures.1 in
     record {
       answer = subst (Changes k s s c.args.vehicle c.args.entry) (sym (p.1 ∙ ap Err p.2))
-          (changes_refused k s c.args.vehicle _ c.in-ok-row.ensures.answer c.args.entry _ c.in-err-may-send.ensures _ c.in-Some.ensures);
+          (changes_refused k s c.args.vehicle _ c.in_ok-row.ensures.answer c.args.entry _ c.in_err-may_send.ensures _ c.in-Some.ensures);
     }
 
 pub returns : goal.returns
@@ -35,5 +35,5 @@ returns g c =
     let k = conduct m.view m.asks m.releases m.advances in
     let s = stage c.args.run.now c.args.vehicles.now c.args.mail.now c.args.policy.now in
     record {
-      answer = changes_done k s c.args.vehicle _ c.in-ok-row.ensures.answer c.args.entry _ refl refl refl refl c.in-ok-may-send.ensures _ c.in-Some.ensures;
+      answer = changes_done k s c.args.vehicle _ c.in_ok-row.ensures.answer c.args.entry _ refl refl refl refl c.in_ok-may_send.ensures _ c.in-Some.ensures;
     }

@@ -8,13 +8,13 @@ use Rattle.vehicle_calls.proofs.lanes.last_in.Goals as goal
 pub loop-i-init : goal.loop-i-init
 loop-i-init c = ap (last_of_lane c.args.lane) (drop_all _ c.args.rows.now (omega arith))
 
-pub returns-then-is-in : goal.returns-then-is-in
-returns-then-is-in c =
+pub returns-then-is_in : goal.returns-then-is_in
+returns-then-is_in c =
     sym (found c.args.lane c.args.rows.now _ _
     (one_back c.args.lane c.args.rows.now c.loop-i.i _ (omega arith) (omega arith) c.loop-i.invariant
-    ∙ cond-true _ _ _ (sym c.is-in.ensures ∙ c.if-is-in.true)))
+    ∙ cond-true _ _ _ (sym c.is_in.ensures ∙ c.if-is_in.true)))
 
 pub loop-i-preserved : goal.loop-i-preserved
 loop-i-preserved c =
     one_back c.args.lane c.args.rows.now c.loop-i.i _ (omega arith) (omega arith) c.loop-i.invariant
-    ∙ cond-false _ _ _ (sym c.is-in.ensures ∙ c.if-is-in.false)
+    ∙ cond-false _ _ _ (sym c.is_in.ensures ∙ c.if-is_in.false)

@@ -8,12 +8,12 @@ use Rattle.bureau.specs.Standing.{Stands}
 use Rattle.bureau.proofs.one_at_a_time.OneAtATime.write_down.Goals as goal
 
 -- what stands after the push stood before, or is the new one, which its footprint vouches for
-pub invariant-of-self : goal.invariant-of-self
-invariant-of-self c =
+pub invariant_of-self : goal.invariant_of-self
+invariant_of-self c =
     let s = c.args.self.now in
     let f = c.args.footprint.now in
-    let one : Standing = record { request = f.request; last_tick = c.last-tick.result } in
-    let new = subst (λ j. Stands j one) c.requires.one (f.ranged, c.last-tick.ensures.answer) in
+    let one : Standing = record { request = f.request; last_tick = c.last_tick.result } in
+    let new = subst (λ j. Stands j one) c.requires.one (f.ranged, c.last_tick.ensures.answer) in
     ((λ x h. ⊎_elim (s.stand x) (λ (e : one ≡ x). subst (Stands s.junction) e new) (c.push.ensures.stood x h)), tt)
 
 pub returns : goal.returns

@@ -4,8 +4,8 @@ use Rattle.bureau.specs.Calls.{view_of}
 use Rattle.bureau.proofs.Stand.{absent_stays}
 use Rattle.bureau.proofs.policy_of.OneAtATimePolicy.release.Goals as goal
 
-pub returns-then-is-none : goal.returns-then-is-none
-returns-then-is-none c =
+pub returns-then-is_none : goal.returns-then-is_none
+returns-then-is_none c =
     let s = c.args.self.now in
-    let absent : is_some (found c.args.name (view_of s).ledger) ≡ false = ap is_some (sym c.find.ensures.found) ∙ c.if-is-none.ensures in
+    let absent : is_some (found c.args.name (view_of s).ledger) ≡ false = ap is_some (sym c.find.ensures.found) ∙ c.if-is_none.ensures in
     record { answer = sym absent; after = absent_stays s c.args.name absent; spares = λ _. refl }

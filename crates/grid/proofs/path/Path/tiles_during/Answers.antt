@@ -12,16 +12,16 @@ returns-then-first-top c tile =
     let lasts = p.lasts in
     bit_zero tile ∙ sym (no_steps p.junction.lanes p.body k.lanes k.fit c.args.first c.args.last tile (omega arith))
 
-pub rear-point-from-requires : goal.rear-point-from-requires
-rear-point-from-requires c = let k = known c.args.self.now in omega (arith, k.starts c.args.first (omega arith), k.fit.short)
+pub rear_point-from-requires : goal.rear_point-from-requires
+rear_point-from-requires c = let k = known c.args.self.now in omega (arith, k.starts c.args.first (omega arith), k.fit.short)
 
-pub front-point-to-requires : goal.front-point-to-requires
-front-point-to-requires c =
+pub front_point-to-requires : goal.front_point-to-requires
+front_point-to-requires c =
     let k = known c.args.self.now in
     record { far = omega (arith, k.starts c.args.top (omega arith), k.fit.short); moving = omega arith; slow = k.slow }
 
-pub points-tiles-requires : goal.points-tiles-requires
-points-tiles-requires c =
+pub points_tiles-requires : goal.points_tiles-requires
+points_tiles-requires c =
     let p = c.args.self.now in
     let k = known p in
     let rising = mul-le-mul_right p.body.speed c.if-first-top.false in
@@ -36,7 +36,7 @@ returns c tile =
     let k = known p in
     let lasts = p.lasts in
     let top : c.args.top ≡ min c.args.last (duration_of n p.body - 1) = c.requires ∙ ap (λ d. min c.args.last (d - 1)) lasts in
-    let to = c.front-point-to.ensures ∙ ap (λ t. min (t * v + v - 1) 47) top in
-    c.points-tiles.ensures tile
-    ∙ ap₂ (λ x y. points_touch n p.body x y tile) c.rear-point-from.ensures to
+    let to = c.front_point-to.ensures ∙ ap (λ t. min (t * v + v - 1) 47) top in
+    c.points_tiles.ensures tile
+    ∙ ap₂ (λ x y. points_touch n p.body x y tile) c.rear_point-from.ensures to
     ∙ sym (steps_points n p.body k.lanes k.fit c.args.first c.args.last tile (omega arith))

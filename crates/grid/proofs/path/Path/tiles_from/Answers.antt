@@ -4,8 +4,8 @@ use Rattle.grid.proofs.Known.{known}
 use Rattle.grid.proofs.Sweeps.{some_single}
 use Rattle.grid.proofs.path.Path.tiles_from.Goals as goal
 
-pub points-tiles-requires : goal.points-tiles-requires
-points-tiles-requires c =
+pub points_tiles-requires : goal.points_tiles-requires
+points_tiles-requires c =
     let p = c.args.self.now in
     let k = known p in
     record { fitting = p.fitting; stands = p.stands; order = omega arith; within = omega arith }
@@ -13,4 +13,4 @@ points-tiles-requires c =
 pub returns : goal.returns
 returns c tile =
     let p = c.args.self.now in
-    c.points-tiles.ensures tile ∙ some_single c.args.i (λ i. point_touches p.junction.lanes p.body i tile)
+    c.points_tiles.ensures tile ∙ some_single c.args.i (λ i. point_touches p.junction.lanes p.body i tile)

@@ -8,8 +8,8 @@ use Rattle.reservation.specs.Requests.{in_range, last_tick_of}
 use Rattle.lock_book.proofs.Stand.{each_more}
 use Rattle.lock_book.proofs.book.LockBook.book.Goals as goal
 
-pub invariant-of-self : goal.invariant-of-self
-invariant-of-self c =
+pub invariant_of-self : goal.invariant_of-self
+invariant_of-self c =
     let b = c.args.self.now in
     let f = c.args.footprint.now in
     let after = c.push.ensures.after ∙ cond-true _ _ _ (lt-ltb _ _ c.requires.room) in (
@@ -19,7 +19,7 @@ invariant-of-self c =
             (subst (λ j. in_range j f.request ≡ true) c.requires.one f.ranged),
         (
           each_more (λ s. s.last_tick ≡ last_tick_of b.junction s.request) (entries b.ledger) _ _ after b.ends
-              (c.last-tick.ensures.answer ∙ ap (λ j. last_tick_of j f.request) c.requires.one),
+              (c.last_tick.ensures.answer ∙ ap (λ j. last_tick_of j f.request) c.requires.one),
           tt,
         ),
       ),

@@ -5,14 +5,14 @@ use Rattle.marks.proofs.Cells.{agree_filled, mark_filled}
 use Rattle.marks.proofs.Xor.{bit_ones}
 use Rattle.marks.proofs.marks.Marks.filled.Goals as goal
 
-pub invariant-of-result : goal.invariant-of-result
-invariant-of-result c = (
+pub invariant_of-result : goal.invariant_of-result
+invariant_of-result c = (
   refl,
   (
     refl,
     (
-      agree_filled c.args.vehicle c.marked-after.result
-          (λ tile below. c.marked-after.ensures tile ∙ cond-true (bit (2 ^ 64 - 1) tile) (not (eqb c.args.vehicle 0)) (bit 0 tile) (bit_ones 64 tile below)),
+      agree_filled c.args.vehicle c.marked_after.result
+          (λ tile below. c.marked_after.ensures tile ∙ cond-true (bit (2 ^ 64 - 1) tile) (not (eqb c.args.vehicle 0)) (bit 0 tile) (bit_ones 64 tile below)),
       tt,
     ),
   ),

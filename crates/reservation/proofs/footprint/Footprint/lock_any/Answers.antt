@@ -12,7 +12,7 @@ returns-then-meets c =
     let one = one_junction f.junction g.junction c.requires in
     locking f.junction f.request g.request _
     (passed (paths_meet f.junction f.request g.request) (is_span_met f.junction f.request g.request) _
-    (c.if-meets.ensures.answer ∙ paths_meet_lem f g one) c.spans-meet.ensures)
+    (c.if-meets.ensures.answer ∙ paths_meet_lem f g one) c.spans_meet.ensures)
 
 pub returns-else-meets : goal.returns-else-meets
 unfolding locks

@@ -10,7 +10,7 @@ returns-then-meets c =
     let r = c.args.request.now in
     locking f.junction f.request r _
     (passed (paths_meet f.junction f.request r) (is_span_met f.junction f.request r) _
-    (c.if-meets.ensures.answer ∙ path_meets f r c.args.path.now c.requires.junction c.requires.body) c.span-meets.ensures)
+    (c.if-meets.ensures.answer ∙ path_meets f r c.args.path.now c.requires.junction c.requires.body) c.span_meets.ensures)
 
 pub returns-else-meets : goal.returns-else-meets
 unfolding locks

@@ -5,8 +5,8 @@ use Rattle.reservation.proofs.Meet.{shares}
 use Rattle.reservation.proofs.Ranges.{range_parts}
 use Rattle.reservation.proofs.footprint.Footprint.share_any.Goals as goal
 
-pub overflow-add-tick-end : goal.overflow-add-tick-end
-overflow-add-tick-end c =
+pub overflow_add-tick-end : goal.overflow_add-tick-end
+overflow_add-tick-end c =
     let f = c.args.self.now in
     let parts = range_parts f.junction f.request f.ranged in
     omega arith
@@ -16,17 +16,17 @@ loop-tick-init c t below =
     let f = c.args.self.now in
     before_one f.junction f.request c.args.other.now.request t (omega arith)
 
-pub returns-then-share-at : goal.returns-then-share-at
-returns-then-share-at c =
+pub returns-then-share_at : goal.returns-then-share_at
+returns-then-share_at c =
     let f = c.args.self.now in
     let q = c.args.other.now.request in
-    shares f.junction f.request q true (sym (share_at f.junction f.request q c.loop-tick.tick (sym c.if-share-at.ensures)))
+    shares f.junction f.request q true (sym (share_at f.junction f.request q c.loop-tick.tick (sym c.if-share_at.ensures)))
 
 pub returns : goal.returns
 returns c =
     let f = c.args.self.now in
     let g = c.args.other.now in
     let one = one_junction f.junction g.junction c.requires in
-    let end : c.last-tick-2.result ≡ last_tick_of f.junction g.request = c.last-tick-2.ensures.answer ∙ ap (λ k. last_tick_of k g.request) (sym one) in
+    let end : c.last_tick-2.result ≡ last_tick_of f.junction g.request = c.last_tick-2.ensures.answer ∙ ap (λ k. last_tick_of k g.request) (sym one) in
     shares f.junction f.request g.request false
     (sym (share_none f.junction f.request g.request c.loop-tick.tick c.loop-tick.invariant (omega arith)))

@@ -13,4 +13,4 @@ returns c =
     let t = c.args.tick in
     let one = sym (one_junction j c.args.other.now.junction c.requires) in
     c.meets.ensures.answer
-    ∙ some_tests 64 _ (both j p q t) (λ tile. ap₂ ◌&&◌ (c.tiles-at.ensures.cells tile) (c.tiles-at-2.ensures.cells tile ∙ ap (λ k. has k q tile t) one))
+    ∙ some_tests 64 _ (both j p q t) (λ tile. ap₂ ◌&&◌ (c.tiles_at.ensures.cells tile) (c.tiles_at-2.ensures.cells tile ∙ ap (λ k. has k q tile t) one))

@@ -14,16 +14,16 @@ use Rattle.tile_table.proofs.table.TileTable.book.Goals.{After-enter}
 more : (c : goal.After-enter) → requests (entries c.enter.new.ledger) ≡ requests (entries c.args.self.now.ledger) ++ c.args.footprint.now.request ∷ []
 more c = ap requests c.enter.ensures.entries ∙ requests-append (entries c.args.self.now.ledger) (standing_of c.args.footprint.now ∷ [])
 
-pub invariant-of-self : goal.invariant-of-self
-invariant-of-self c =
+pub invariant_of-self : goal.invariant_of-self
+invariant_of-self c =
     let s = c.args.self.now in
     let f = c.args.footprint.now in
     let rs = requests (entries s.ledger) in
     let new = c.enter.new.marks in
     let painted = subst (λ j. Painted s.clock (has j f.request) f.request.vehicle s.marks new) c.requires.one c.enter.ensures.marks in
-    let in-range = subst (λ j. in_range j f.request ≡ true) c.requires.one f.ranged in
-    let sound = subst (λ l. Sound s.junction s.clock l new) (sym (more (goal.at.invariant-of-self c).After-enter))
-    (sound_asked s.junction s.clock rs s.marks (sound_of s) f.request in-range c.requires.time c.requires.alone new painted) in
+    let in_range = subst (λ j. in_range j f.request ≡ true) c.requires.one f.ranged in
+    let sound = subst (λ l. Sound s.junction s.clock l new) (sym (more (goal.at.invariant_of-self c).After-enter))
+    (sound_asked s.junction s.clock rs s.marks (sound_of s) f.request in_range c.requires.time c.requires.alone new painted) in
     let ends : last_tick_of f.junction f.request ≡ last_tick_of s.junction f.request = ap (λ j. last_tick_of j f.request) c.requires.one in (
       s.early,
       (

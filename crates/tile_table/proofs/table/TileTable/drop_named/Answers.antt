@@ -17,35 +17,35 @@ use Rattle.tile_table.proofs.table.TileTable.drop_named.Goals.{After-remove}
 fewer : (c : goal.After-remove) → requests (entries c.remove.new.self) ≡ filter (λ r. not (named c.args.name r)) (requests (entries c.args.self.now.ledger))
 fewer c = ap requests c.remove.ensures.after ∙ requests-other c.args.name (entries c.args.self.now.ledger)
 
-pub clear-named-requires : goal.clear-named-requires
-clear-named-requires c =
+pub clear_named-requires : goal.clear_named-requires
+clear_named-requires c =
     let s = c.args.self.now in
     record {
-      ranged = subst (λ l. Ranged s.junction (requests l)) (sym c.as-slice.ensures.entries) s.ranged;
-      ahead = subst (λ l. Ahead s.junction s.clock (requests l)) (sym c.as-slice.ensures.entries) s.ahead;
+      ranged = subst (λ l. Ranged s.junction (requests l)) (sym c.as_slice.ensures.entries) s.ranged;
+      ahead = subst (λ l. Ahead s.junction s.clock (requests l)) (sym c.as_slice.ensures.entries) s.ahead;
     }
 
-pub mark-vehicle-requires : goal.mark-vehicle-requires
-mark-vehicle-requires c =
+pub mark_vehicle-requires : goal.mark_vehicle-requires
+mark_vehicle-requires c =
     let s = c.args.self.now in
     let rs = requests (entries s.ledger) in
-    let is = ap requests c.as-slice-2.ensures.entries ∙ fewer (goal.at.mark-vehicle-requires c).After-remove in
+    let is = ap requests c.as_slice-2.ensures.entries ∙ fewer (goal.at.mark_vehicle-requires c).After-remove in
     record {
       vehicle = found_vehicle s.junction c.args.name rs s.ranged c.requires;
       ranged = subst (Ranged s.junction) (sym is) (λ r h. s.ranged r (has_kept_by (λ x. not (named c.args.name x)) rs r h));
       ahead = subst (Ahead s.junction s.clock) (sym is) (λ r h. s.ahead r (has_kept_by (λ x. not (named c.args.name x)) rs r h));
     }
 
-pub invariant-of-self : goal.invariant-of-self
-invariant-of-self c =
+pub invariant_of-self : goal.invariant_of-self
+invariant_of-self c =
     let s = c.args.self.now in
     let n = c.args.name in
-    let at = (goal.at.invariant-of-self c).After-remove in
+    let at = (goal.at.invariant_of-self c).After-remove in
     let rs = requests (entries s.ledger) in
-    let mid = c.clear-named.new.marks in
-    let new = c.mark-vehicle.new.marks in
-    let cleared = subst (λ l. Painted s.clock (covers (Named n) s.junction (requests l)) 0 s.marks mid) c.as-slice.ensures.entries c.clear-named.ensures in
-    let again = subst (λ l. Painted s.clock (covers (Of n.vehicle) s.junction l) n.vehicle mid new) (ap requests c.as-slice-2.ensures.entries ∙ fewer at) c.mark-vehicle.ensures in
+    let mid = c.clear_named.new.marks in
+    let new = c.mark_vehicle.new.marks in
+    let cleared = subst (λ l. Painted s.clock (covers (Named n) s.junction (requests l)) 0 s.marks mid) c.as_slice.ensures.entries c.clear_named.ensures in
+    let again = subst (λ l. Painted s.clock (covers (Of n.vehicle) s.junction l) n.vehicle mid new) (ap requests c.as_slice-2.ensures.entries ∙ fewer at) c.mark_vehicle.ensures in
     let sound = subst (λ l. Sound s.junction s.clock l new) (sym (fewer at))
     (sound_released s.junction s.clock rs s.marks (sound_of s) n mid new cleared again) in (
       s.early,

@@ -19,7 +19,7 @@ past c =
     let s = c.args.self.now in
     let r = c.args.request.now in
     let name = c.find-standing.ensures.found ∙ ap (λ n. found n (requests (entries s.ledger))) c.name.ensures.answer in
-    stopped_same (view_of s) None r c.find-standing.result None name c.in-default.ensures.answer
+    stopped_same (view_of s) None r c.find-standing.result None name c.in_default.ensures.answer
 
 time : (c : goal.In-Some-of) → is_in_time c.args.self.now.junction c.args.self.now.clock c.in-Some-of.footprint.request ≡ true
 time c =
@@ -36,28 +36,28 @@ returns-in-Some-rival c =
     clash_verdict CellClash (view_of s) r s.ranged (past (goal.at.returns-in-Some-rival c).In-Some-of) c.in-Some-rival.rival
     (subst (λ x. RivalOf s x (Some c.in-Some-rival.rival)) c.in-Some-of.ensures.answer.1 c.in-Some-rival.ensures)
 
-pub returns-then-is-full : goal.returns-then-is-full
-returns-then-is-full c =
+pub returns-then-is_full : goal.returns-then-is_full
+returns-then-is_full c =
     let s = c.args.self.now in
     let r = c.args.request.now in
-    let full = leb-true _ _ (sym c.if-is-full.ensures.full) in
-    full_verdict CellClash (view_of s) r s.ranged (past (goal.at.returns-then-is-full c).In-Some-of)
-    (subst (λ x. RivalOf s x None) c.in-Some-of.ensures.answer.1 c.in-default-rival.ensures)
+    let full = leb-true _ _ (sym c.if-is_full.ensures.full) in
+    full_verdict CellClash (view_of s) r s.ranged (past (goal.at.returns-then-is_full c).In-Some-of)
+    (subst (λ x. RivalOf s x None) c.in-Some-of.ensures.answer.1 c.in_default-rival.ensures)
     (omega (arith, length-requests (entries s.ledger)))
 
 pub returns : goal.returns
 returns c =
     let s = c.args.self.now in
     let r = c.args.request.now in
-    let room = leb-false _ _ (sym c.if-is-full.ensures.full) in (
+    let room = leb-false _ _ (sym c.if-is_full.ensures.full) in (
       grant_verdict CellClash (view_of s) r s.ranged (past (goal.at.returns c).In-Some-of)
-          (subst (λ x. RivalOf s x None) c.in-Some-of.ensures.answer.1 c.in-default-rival.ensures)
+          (subst (λ x. RivalOf s x None) c.in-Some-of.ensures.answer.1 c.in_default-rival.ensures)
           (omega (arith, length-requests (entries s.ledger))),
       c.in-Some-of.ensures.answer.1,
       record {
         one = c.in-Some-of.ensures.answer.0;
         room = room;
         time = time (goal.at.returns c).In-Some-of;
-        alone = c.in-default-rival.ensures;
+        alone = c.in_default-rival.ensures;
       },
     )

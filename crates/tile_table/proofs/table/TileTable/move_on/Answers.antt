@@ -7,26 +7,26 @@ use Rattle.ledger.specs.Standings.{lasts, requests}
 use Rattle.ledger.proofs.Requests.{requests_lasting}
 use Rattle.tile_table.proofs.Sound.{Sound, each_kept, sound_advanced, sound_of}
 use Rattle.tile_table.proofs.table.TileTable.move_on.Goals as goal
-use Rattle.tile_table.proofs.table.TileTable.move_on.Goals.{After-pass-tick}
+use Rattle.tile_table.proofs.table.TileTable.move_on.Goals.{After-pass_tick}
 
-fewer : (c : goal.After-pass-tick) → requests (entries c.pass-tick.new.ledger) ≡ lasting c.args.self.now.junction (c.args.self.now.clock + 1) (requests (entries c.args.self.now.ledger))
+fewer : (c : goal.After-pass_tick) → requests (entries c.pass_tick.new.ledger) ≡ lasting c.args.self.now.junction (c.args.self.now.clock + 1) (requests (entries c.args.self.now.ledger))
 fewer c =
     let s = c.args.self.now in
-    ap requests c.pass-tick.ensures.entries ∙ requests_lasting (last_tick_of s.junction) (s.clock + 1) (entries s.ledger) s.ending
+    ap requests c.pass_tick.ensures.entries ∙ requests_lasting (last_tick_of s.junction) (s.clock + 1) (entries s.ledger) s.ending
 
-pub invariant-of-self : goal.invariant-of-self
-invariant-of-self c =
+pub invariant_of-self : goal.invariant_of-self
+invariant_of-self c =
     let s = c.args.self.now in
-    let at = (goal.at.invariant-of-self c).After-pass-tick in
-    let new = c.pass-tick.new.marks in
+    let at = (goal.at.invariant_of-self c).After-pass_tick in
+    let new = c.pass_tick.new.marks in
     let early : s.clock + 1 ≤ 1000000 = omega arith in
     let sound = subst (λ l. Sound s.junction (s.clock + 1) l new) (sym (fewer at))
-    (sound_advanced s.junction s.clock (requests (entries s.ledger)) s.marks (sound_of s) new c.pass-tick.ensures.here c.pass-tick.ensures.others) in (
+    (sound_advanced s.junction s.clock (requests (entries s.ledger)) s.marks (sound_of s) new c.pass_tick.ensures.here c.pass_tick.ensures.others) in (
       early,
       (
         sound.ranged,
         (
-          each_kept (λ x. x.last_tick ≡ last_tick_of s.junction x.request) (lasts (s.clock + 1)) (entries s.ledger) (entries c.pass-tick.new.ledger) c.pass-tick.ensures.entries s.ending,
+          each_kept (λ x. x.last_tick ≡ last_tick_of s.junction x.request) (lasts (s.clock + 1)) (entries s.ledger) (entries c.pass_tick.new.ledger) c.pass_tick.ensures.entries s.ending,
           (sound.ahead, (sound.apart, (sound.agree, tt))),
         ),
       ),
@@ -36,4 +36,4 @@ pub returns : goal.returns
 returns c =
     let s = c.args.self.now in
     let later : List Request → View = λ l. record { junction = s.junction; clock = s.clock + 1; ledger = l } in
-    ap later (fewer (goal.at.returns c).After-pass-tick)
+    ap later (fewer (goal.at.returns c).After-pass_tick)

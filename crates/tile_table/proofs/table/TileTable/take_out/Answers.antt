@@ -4,8 +4,8 @@ use Rattle.tile_table.specs.Tables.{view_of}
 use Rattle.tile_table.proofs.Found.{not_found}
 use Rattle.tile_table.proofs.table.TileTable.take_out.Goals as goal
 
-pub returns-then-is-none : goal.returns-then-is-none
-returns-then-is-none c =
+pub returns-then-is_none : goal.returns-then-is_none
+returns-then-is_none c =
     let w = view_of c.args.self.now in
-    let absent : is_some (found c.args.name w.ledger) ≡ false = ap is_some (sym c.find.ensures.found) ∙ c.if-is-none.ensures in
+    let absent : is_some (found c.args.name w.ledger) ≡ false = ap is_some (sym c.find.ensures.found) ∙ c.if-is_none.ensures in
     record { answer = sym absent; after = ap (with_ledger w) (sym (not_found c.args.name w.ledger absent)); spares = λ _. refl }

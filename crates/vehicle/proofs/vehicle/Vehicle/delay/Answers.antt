@@ -12,14 +12,14 @@ reach_few v =
     let whole = div-le_self (v.row.first_distance + v.row.body.speed - 1) v.row.body.speed in
     omega (arith, good.arrival, good.first, good.body.slow)
 
-pub ticks-for-reach-requires : goal.ticks-for-reach-requires
-ticks-for-reach-requires c =
+pub ticks_for-reach-requires : goal.ticks_for-reach-requires
+ticks_for-reach-requires c =
     let v = c.args.self.now in
     let good = good_parts v.junction v.row v.ok in
     record { near = good.first; moving = omega (arith, good.body.moving); slow = good.body.slow }
 
-pub overflow-add-soonest : goal.overflow-add-soonest
-overflow-add-soonest c = omega (arith, reach_few c.args.self.now)
+pub overflow_add-soonest : goal.overflow_add-soonest
+overflow_add-soonest c = omega (arith, reach_few c.args.self.now)
 
-pub overflow-add-soonest-2 : goal.overflow-add-soonest-2
-overflow-add-soonest-2 c = omega (arith, reach_few c.args.self.now, (known c.path.result).few)
+pub overflow_add-soonest-2 : goal.overflow_add-soonest-2
+overflow_add-soonest-2 c = omega (arith, reach_few c.args.self.now, (known c.path.result).few)
