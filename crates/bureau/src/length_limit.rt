@@ -4,7 +4,7 @@ ghost use Rattle.std.proofs.Common.{ap, rules};
 ghost use Rattle.refusal.specs.declared.kinds.Denial.TheVariants.{Because};
 ghost use Rattle.policy.specs.Layers.{Layered, over};
 ghost use Rattle.bureau.specs.Limits.{counted, length_gate};
-ghost use Rattle.policy.proofs.Layers.{layer-answers, layer-records};
+ghost use Rattle.policy.proofs.Layers.{layer_answers, layer_records};
 
 use grid::junction::Junction;
 use policy::policy::Policy;
@@ -99,14 +99,14 @@ impl<P: Policy> Policy for LengthLimit<P> {
 
     ghost answers = { λ s r a t h.
         let below = P.Policy in
-        layer-answers below.clash (below.view s.below) (length_gate s.limit r) (below.gate s.below r) r
+        layer_answers below.clash (below.view s.below) (length_gate s.limit r) (below.gate s.below r) r
         ((t.below ≡ s.below) × (t.limit ≡ counted s.limit a))
         (λ b. below.asks s.below r b t.below × (t.limit ≡ s.limit)) a
         (λ b asks. P.Policy.answers s.below r b t.below asks.0) h };
 
     ghost records = { λ s r a t h.
         let below = P.Policy in
-        layer-records (below.view s.below) (below.view t.below) (length_gate s.limit r) r
+        layer_records (below.view s.below) (below.view t.below) (length_gate s.limit r) r
         ((t.below ≡ s.below) × (t.limit ≡ counted s.limit a))
         (λ b. below.asks s.below r b t.below × (t.limit ≡ s.limit)) a
         (λ same. ap below.view same.0)

@@ -5,8 +5,8 @@ ghost use Rattle.policy.specs.Views.{lasting, moved, released, with_ledger};
 ghost use Rattle.bureau.specs.Calls.{Advances, Asks, Releases, view_of};
 ghost use Rattle.bureau.specs.Spans.{SpanClash};
 ghost use Rattle.std.proofs.Common.{arith, rules};
-ghost use Rattle.reservation.proofs.Laws.{has_within, share-found};
-ghost use Rattle.ledger.proofs.Bounds.{few-requests};
+ghost use Rattle.reservation.proofs.Laws.{has_within, share_found};
+ghost use Rattle.ledger.proofs.Bounds.{few_requests};
 
 use super::one_at_a_time::OneAtATime;
 use grid::junction::Junction;
@@ -68,12 +68,12 @@ impl Policy for OneAtATime {
 
     // a cell that both have is at a tick of both spans
     ghost covers = { λ j x y e.
-        let (tile, t, one, other) = share-found j x y e in
+        let (tile, t, one, other) = share_found j x y e in
         let first = has_within j x tile t one in
         let second = has_within j y tile t other in
         (omega arith, omega arith) };
 
-    ghost few = { λ s. few-requests s.ledger };
+    ghost few = { λ s. few_requests s.ledger };
 
     ghost told = { first_of (Prim.search rules, Prim.grind (arith, Self.row.coded.inj)) };
 

@@ -21,7 +21,7 @@ pub fn deliver<P: Policy>(
     mail: &mut [MessageRow],
     message: u32,
 ) -> Result<(), CallFault>
-    ensures answer { Delivers (conduct view asks releases advances) (stage run.old vehicles.old mail.old policy.old) (stage run.new vehicles.new mail.new policy.new) message result }
+    ensures answer { Delivers (conduct P.view P.asks P.releases P.advances) (stage run.old vehicles.old mail.old policy.old) (stage run.new vehicles.new mail.new policy.new) message result }
 {
     admit_message(run, policy, vehicles, mail, message)?;
     let Some(sent) = Message::of(mail[message as usize - 1]) else {

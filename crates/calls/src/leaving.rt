@@ -34,7 +34,7 @@ pub fn lose<P: Policy>(
     mail: &mut [MessageRow],
     message: u32,
 ) -> Result<(), CallFault>
-    ensures answer { Loses (conduct view asks releases advances) (stage run.old vehicles.now mail.old policy.now) (stage run.new vehicles.now mail.new policy.now) message result }
+    ensures answer { Loses (conduct P.view P.asks P.releases P.advances) (stage run.old vehicles.now mail.old policy.now) (stage run.new vehicles.now mail.new policy.now) message result }
 {
     admit_message(run, policy, vehicles, mail, message)?;
     take_out(run, mail, message, None);

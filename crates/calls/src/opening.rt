@@ -9,7 +9,7 @@ use run::run::Run;
 use vehicle::rows::VehicleRow;
 
 fn is_empty<P: Policy>(policy: &P) -> bool
-    ensures { Decides result ((view policy.now).ledger ≡ []) }
+    ensures { Decides result ((P.view policy.now).ledger ≡ []) }
 {
     match policy.at(1) {
         Some(_) => false,
@@ -19,7 +19,7 @@ fn is_empty<P: Policy>(policy: &P) -> bool
 
 // Whether the policy is as it was made: at clock 0, with no standing request.
 fn is_new<P: Policy>(policy: &P) -> bool
-    ensures { Decides result (((view policy.now).clock ≡ 0) × ((view policy.now).ledger ≡ [])) }
+    ensures { Decides result (((P.view policy.now).clock ≡ 0) × ((P.view policy.now).ledger ≡ [])) }
 {
     policy.clock() == 0 && is_empty(policy)
 }
@@ -30,7 +30,7 @@ pub fn open<P: Policy>(
     vehicles: &[VehicleRow],
     mail: &[MessageRow],
 ) -> Result<Run, CallFault>
-    ensures answer { Opens vehicles.now mail.now (view policy.now) result }
+    ensures answer { Opens vehicles.now mail.now (P.view policy.now) result }
 {
     if vehicles.len() > 1024 || mail.len() > 256 {
         return Err(CallFault::Memory);

@@ -17,7 +17,7 @@ pub fn repeat<P: Policy>(
     mail: &mut [MessageRow],
     message: u32,
 ) -> Result<(), CallFault>
-    ensures answer { Repeats (conduct view asks releases advances) (stage run.old vehicles.now mail.old policy.now) (stage run.new vehicles.now mail.new policy.now) message result }
+    ensures answer { Repeats (conduct P.view P.asks P.releases P.advances) (stage run.old vehicles.now mail.old policy.now) (stage run.new vehicles.now mail.new policy.now) message result }
 {
     admit_message(run, policy, vehicles, mail, message)?;
     if run.mail >= mail.len() {

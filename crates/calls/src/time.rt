@@ -14,8 +14,8 @@ use vehicle::rows::VehicleRow;
 
 // The policy goes on by one tick, and the run with it; at the clock's end neither does.
 fn go_on<P: Policy>(run: &mut Run, policy: &mut P) -> Result<(), CallFault>
-    requires { run.old.clock ≡ (view policy.old).clock }
-    ensures policy { advances policy.old result policy.new }
+    requires { run.old.clock ≡ (P.view policy.old).clock }
+    ensures policy { P.advances policy.old result policy.new }
     ensures run { MatchResult result (λ _. OneOn run.old run.new) (λ _. run.new ≡ run.old) }
 {
     policy.advance()?;
@@ -30,7 +30,7 @@ pub fn tick<P: Policy>(
     vehicles: &mut [VehicleRow],
     mail: &mut [MessageRow],
 ) -> Result<(), CallFault>
-    ensures answer { Ticks (conduct view asks releases advances) (stage run.old vehicles.old mail.old policy.old) (stage run.new vehicles.new mail.new policy.new) result }
+    ensures answer { Ticks (conduct P.view P.asks P.releases P.advances) (stage run.old vehicles.old mail.old policy.old) (stage run.new vehicles.new mail.new policy.new) result }
 {
     ready(run, policy, vehicles, mail)?;
     go_on(run, policy)?;

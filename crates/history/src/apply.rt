@@ -45,7 +45,7 @@ fn open_again<P: Policy>(
     vehicles: &[VehicleRow],
     mail: &[MessageRow],
 ) -> Answer
-    ensures { Makes (conduct view asks releases advances) (stage run.old vehicles.now mail.now policy.now) call.Open result (stage run.new vehicles.now mail.now policy.now) }
+    ensures { Makes (conduct P.view P.asks P.releases P.advances) (stage run.old vehicles.now mail.now policy.now) call.Open result (stage run.new vehicles.now mail.now policy.now) }
 {
     match open(policy, vehicles, mail) {
         Ok(new) => {
@@ -64,7 +64,7 @@ pub fn apply<P: Policy>(
     mail: &mut [MessageRow],
     call: &Call,
 ) -> Answer
-    ensures made { Makes (conduct view asks releases advances) (stage run.old vehicles.old mail.old policy.old) call.now result (stage run.new vehicles.new mail.new policy.new) }
+    ensures made { Makes (conduct P.view P.asks P.releases P.advances) (stage run.old vehicles.old mail.old policy.old) call.now result (stage run.new vehicles.new mail.new policy.new) }
 {
     match *call {
         Call::Open => open_again(run, policy, vehicles, mail),

@@ -27,7 +27,7 @@ fn make_all<P: Policy>(
     requires none { answers.old.items ≡ [] }
     requires empty { vec_len answers.old ≡ 0 }
     requires room { length calls.now ≤ vec_capacity answers.old }
-    ensures ran { Ran (conduct view asks releases advances) (stage run.old vehicles.old mail.old policy.old) calls.now answers.new.items (stage run.new vehicles.new mail.new policy.new) }
+    ensures ran { Ran (conduct P.view P.asks P.releases P.advances) (stage run.old vehicles.old mail.old policy.old) calls.now answers.new.items (stage run.new vehicles.new mail.new policy.new) }
 {
     for call in calls {
         answers.push_reserved(apply(run, policy, vehicles, mail, call));
@@ -41,7 +41,7 @@ fn open_and_make<P: Policy>(
     mail: &mut [MessageRow],
     calls: &[Call],
 ) -> Result<Played, Unplayed>
-    ensures answer { Replays (conduct view asks releases advances) marks vehicles.old mail.old policy.old calls.now vehicles.new mail.new policy.new result }
+    ensures answer { Replays (conduct P.view P.asks P.releases P.advances) P.marks vehicles.old mail.old policy.old calls.now vehicles.new mail.new policy.new result }
 {
     let Ok(mut answers) = Vec::with_capacity(heap, calls.len()) else {
         return Err(Unplayed::NoMemory);
@@ -65,7 +65,7 @@ pub fn replay<P: Policy>(
     mail: &mut [MessageRow],
     calls: &[Call],
 ) -> Result<Played, Unplayed>
-    ensures answer { Replays (conduct view asks releases advances) marks vehicles.old mail.old policy.old calls.now vehicles.new mail.new policy.new result }
+    ensures answer { Replays (conduct P.view P.asks P.releases P.advances) P.marks vehicles.old mail.old policy.old calls.now vehicles.new mail.new policy.new result }
 {
     open_and_make(heap, policy, vehicles, mail, calls)
 }
@@ -78,7 +78,7 @@ fn make_more<P: Policy>(
     mail: &mut [MessageRow],
     calls: &[Call],
 ) -> Option<Vec<Answer>>
-    ensures ran { GoesOn (conduct view asks releases advances) marks (stage run.old vehicles.old mail.old policy.old) calls.now (stage run.new vehicles.new mail.new policy.new) (option_map vec_items result) }
+    ensures ran { GoesOn (conduct P.view P.asks P.releases P.advances) P.marks (stage run.old vehicles.old mail.old policy.old) calls.now (stage run.new vehicles.new mail.new policy.new) (option_map vec_items result) }
 {
     let Ok(mut answers) = Vec::with_capacity(heap, calls.len()) else {
         return None;
@@ -97,7 +97,7 @@ pub fn go_on<P: Policy>(
     mail: &mut [MessageRow],
     calls: &[Call],
 ) -> Option<Vec<Answer>>
-    ensures ran { GoesOn (conduct view asks releases advances) marks (stage run.old vehicles.old mail.old policy.old) calls.now (stage run.new vehicles.new mail.new policy.new) (option_map vec_items result) }
+    ensures ran { GoesOn (conduct P.view P.asks P.releases P.advances) P.marks (stage run.old vehicles.old mail.old policy.old) calls.now (stage run.new vehicles.new mail.new policy.new) (option_map vec_items result) }
 {
     make_more(heap, run, policy, vehicles, mail, calls)
 }

@@ -4,7 +4,7 @@ ghost use Rattle.std.specs.Prelude.{◌≡◌, if◌then◌else◌, Some, None, 
 ghost use Rattle.std.proofs.Common.{ap, rules};
 ghost use Rattle.layers.specs.Gates.{distance_gate, first_limits, limits_after};
 ghost use Rattle.policy.specs.Layers.{Layered, over};
-ghost use Rattle.policy.proofs.Layers.{layer-answers, layer-records};
+ghost use Rattle.policy.proofs.Layers.{layer_answers, layer_records};
 
 use super::lane_table::{LaneTable, after_answer, limit_of};
 use grid::junction::Junction;
@@ -78,14 +78,14 @@ impl<P: Policy> Policy for Distance<P> {
     ghost answers = { λ s r a t h.
         let below = P.Policy in
         let limits = s.lanes.limits in
-        layer-answers below.clash (below.view s.below) (distance_gate limits r) (below.gate s.below r) r (t ≡ s)
+        layer_answers below.clash (below.view s.below) (distance_gate limits r) (below.gate s.below r) r (t ≡ s)
         (λ b. below.asks s.below r b t.below × (t.lanes.limits ≡ limits_after limits r b)) a
         (λ b asks. P.Policy.answers s.below r b t.below asks.0) h };
 
     ghost records = { λ s r a t h.
         let below = P.Policy in
         let limits = s.lanes.limits in
-        layer-records (below.view s.below) (below.view t.below) (distance_gate limits r) r (t ≡ s)
+        layer_records (below.view s.below) (below.view t.below) (distance_gate limits r) r (t ≡ s)
         (λ b. below.asks s.below r b t.below × (t.lanes.limits ≡ limits_after limits r b)) a
         (λ e. ap (λ x. below.view x.below) e)
         (λ b asks. P.Policy.records s.below r b t.below asks.0) h };

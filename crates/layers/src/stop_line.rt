@@ -3,7 +3,7 @@ ghost use Rattle.std.specs.Prelude.{◌≡◌};
 ghost use Rattle.std.proofs.Common.{ap, rules};
 ghost use Rattle.layers.specs.Gates.{stop_gate};
 ghost use Rattle.policy.specs.Layers.{Layered, over};
-ghost use Rattle.policy.proofs.Layers.{layer-answers, layer-records};
+ghost use Rattle.policy.proofs.Layers.{layer_answers, layer_records};
 
 use grid::junction::Junction;
 use policy::policy::Policy;
@@ -51,13 +51,13 @@ impl<P: Policy> Policy for StopLine<P> {
 
     ghost answers = { λ s r a t h.
         let below = P.Policy in
-        layer-answers below.clash (below.view s.below) (stop_gate r) (below.gate s.below r) r (t ≡ s)
+        layer_answers below.clash (below.view s.below) (stop_gate r) (below.gate s.below r) r (t ≡ s)
         (λ b. below.asks s.below r b t.below) a
         (λ b asks. P.Policy.answers s.below r b t.below asks) h };
 
     ghost records = { λ s r a t h.
         let below = P.Policy in
-        layer-records (below.view s.below) (below.view t.below) (stop_gate r) r (t ≡ s)
+        layer_records (below.view s.below) (below.view t.below) (stop_gate r) r (t ≡ s)
         (λ b. below.asks s.below r b t.below) a
         (λ e. ap (λ x. below.view x.below) e)
         (λ b asks. P.Policy.records s.below r b t.below asks) h };

@@ -47,7 +47,7 @@ fn are_one(a: Junction, b: Junction) -> bool
 }
 
 fn agrees<P: Policy>(run: &Run, policy: &P) -> bool
-    ensures { Decides result (Agrees run.now (view policy.now)) }
+    ensures { Decides result (Agrees run.now (P.view policy.now)) }
 {
     are_one(run.junction, policy.junction()) && run.clock == policy.clock()
 }
@@ -59,7 +59,7 @@ pub fn ready<P: Policy>(
     vehicles: &[VehicleRow],
     mail: &[MessageRow],
 ) -> Result<(), CallFault>
-    ensures answer { Ruled (common view (stage run.now vehicles.now mail.now policy.now)) Nothing (Unit {0}) result }
+    ensures answer { Ruled (common P.view (stage run.now vehicles.now mail.now policy.now)) Nothing (Unit {0}) result }
 {
     if !is_whole(run, vehicles, mail) {
         return Err(CallFault::Memory);
@@ -78,7 +78,7 @@ pub fn admit_message<P: Policy>(
     mail: &[MessageRow],
     message: u32,
 ) -> Result<(), CallFault>
-    ensures answer { Ruled (of_message view (stage run.now vehicles.now mail.now policy.now) message) Nothing (Unit {0}) result }
+    ensures answer { Ruled (of_message P.view (stage run.now vehicles.now mail.now policy.now) message) Nothing (Unit {0}) result }
 {
     ready(run, policy, vehicles, mail)?;
     if message < 1 || message as usize > run.mail {
@@ -102,7 +102,7 @@ pub fn admit_vehicle<P: Policy>(
     mail: &[MessageRow],
     vehicle: u32,
 ) -> Result<VehicleRow, CallFault>
-    ensures answer { Ruled (of_vehicle view (stage run.now vehicles.now mail.now policy.now) vehicle) (λ row. row ≡ row_of (world (stage run.now vehicles.now mail.now policy.now)).vehicles vehicle) (Unit {0}) result }
+    ensures answer { Ruled (of_vehicle P.view (stage run.now vehicles.now mail.now policy.now) vehicle) (λ row. row ≡ row_of (world (stage run.now vehicles.now mail.now policy.now)).vehicles vehicle) (Unit {0}) result }
 {
     ready(run, policy, vehicles, mail)?;
     if !has_arrived(run, vehicle) {

@@ -6,8 +6,8 @@ ghost use Rattle.rivals.specs.Rivals.{PathClash};
 ghost use Rattle.ledger.specs.Entries.{entries};
 ghost use Rattle.ledger.specs.Standings.{requests};
 ghost use Rattle.lock_book.specs.Booked.{Advances, Asks, Releases, view_of};
-ghost use Rattle.reservation.proofs.Laws.{locks-symmetric, share-locks};
-ghost use Rattle.ledger.proofs.Bounds.{few-requests};
+ghost use Rattle.reservation.proofs.Laws.{locks_symmetric, share_locks};
+ghost use Rattle.ledger.proofs.Bounds.{few_requests};
 
 use super::book::LockBook;
 use grid::junction::Junction;
@@ -60,11 +60,11 @@ impl Policy for LockBook {
 
     ghost advances = { Advances };
 
-    ghost symmetric = { λ j x y e. sym (locks-symmetric j x y) ∙ e };
+    ghost symmetric = { λ j x y e. sym (locks_symmetric j x y) ∙ e };
 
-    ghost covers = { λ j x y e. share-locks j x y e };
+    ghost covers = { λ j x y e. share_locks j x y e };
 
-    ghost few = { λ s. few-requests s.ledger };
+    ghost few = { λ s. few_requests s.ledger };
 
     ghost told = { first_of (Prim.search rules, Prim.grind (arith, Self.row.coded.inj)) };
 

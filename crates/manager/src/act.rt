@@ -18,7 +18,7 @@ fn tell<P: Policy>(
     row: VehicleRow,
     message: MessageRow,
 ) -> (VehicleRow, Option<MessageRow>)
-    ensures { Responds (conduct view asks releases advances) policy.now row vehicle message (outcome result.0 policy.now result.1) }
+    ensures { Responds (conduct P.view P.asks P.releases P.advances) policy.now row vehicle message (outcome result.0 policy.now result.1) }
 {
     respond(policy.junction(), policy.clock(), vehicle, row, message)
 }
@@ -30,7 +30,7 @@ fn decide<P: Policy>(
     row: VehicleRow,
     message: MessageRow,
 ) -> (VehicleRow, Option<MessageRow>)
-    ensures { Acts (conduct view asks releases advances) policy.old row message (outcome result.0 policy.new result.1) }
+    ensures { Acts (conduct P.view P.asks P.releases P.advances) policy.old row message (outcome result.0 policy.new result.1) }
 {
     match message {
         MessageRow::Request { number, .. } if number < row.heard => (row, None),
@@ -83,9 +83,9 @@ fn settle<P: Policy>(
     row: VehicleRow,
     message: MessageRow,
 ) -> (VehicleRow, Option<MessageRow>)
-    ensures answer { Acts (conduct view asks releases advances) policy.old row message (outcome result.0 policy.new result.1) }
-    ensures only { Only (conduct view asks releases advances) gate policy.old row message (outcome result.0 policy.new result.1) }
-    ensures once { Once (conduct view asks releases advances) policy.old row message (outcome result.0 policy.new result.1) }
+    ensures answer { Acts (conduct P.view P.asks P.releases P.advances) policy.old row message (outcome result.0 policy.new result.1) }
+    ensures only { Only (conduct P.view P.asks P.releases P.advances) P.gate policy.old row message (outcome result.0 policy.new result.1) }
+    ensures once { Once (conduct P.view P.asks P.releases P.advances) policy.old row message (outcome result.0 policy.new result.1) }
 {
     decide(policy, row, message)
 }
@@ -97,9 +97,9 @@ pub fn act<P: Policy>(
     row: VehicleRow,
     message: MessageRow,
 ) -> (VehicleRow, Option<MessageRow>)
-    ensures answer { Acts (conduct view asks releases advances) policy.old row message (outcome result.0 policy.new result.1) }
-    ensures only { Only (conduct view asks releases advances) gate policy.old row message (outcome result.0 policy.new result.1) }
-    ensures once { Once (conduct view asks releases advances) policy.old row message (outcome result.0 policy.new result.1) }
+    ensures answer { Acts (conduct P.view P.asks P.releases P.advances) policy.old row message (outcome result.0 policy.new result.1) }
+    ensures only { Only (conduct P.view P.asks P.releases P.advances) P.gate policy.old row message (outcome result.0 policy.new result.1) }
+    ensures once { Once (conduct P.view P.asks P.releases P.advances) policy.old row message (outcome result.0 policy.new result.1) }
 {
     settle(policy, row, message)
 }

@@ -22,7 +22,7 @@ fn is_stale(vehicle: u32, base: Option<u32>, request: &Request) -> bool
 // Releases the vehicle's standing requests but its base, in the order granted. A release moves the later requests up,
 // so that the next one to look at stands at the same place.
 pub(crate) fn release_stale<P: Policy>(policy: &mut P, vehicle: u32, base: Option<u32>)
-    ensures { Cleared (conduct view asks releases advances) vehicle base policy.old policy.new }
+    ensures { Cleared (conduct P.view P.asks P.releases P.advances) vehicle base policy.old policy.new }
 {
     let mut i = 1;
     while let Some(request) = policy.at(i) {

@@ -14,14 +14,14 @@ use vehicle::rows::VehicleRow;
 
 // Whether the vehicle's request of that number stands.
 pub(crate) fn stands<P: Policy>(policy: &P, vehicle: u32, number: u32) -> bool
-    ensures { result ≡ is_some (found (name vehicle number) (view policy.now).ledger) }
+    ensures { result ≡ is_some (found (name vehicle number) (P.view policy.now).ledger) }
 {
     policy.find(Name { vehicle, number }).is_some()
 }
 
 // The reply to a number that the manager has heard before, by whether its request still stands.
 pub(crate) fn answer_again<P: Policy>(policy: &P, vehicle: u32, number: u32) -> MessageRow
-    ensures { result ≡ again vehicle number (found (name vehicle number) (view policy.now).ledger) }
+    ensures { result ≡ again vehicle number (found (name vehicle number) (P.view policy.now).ledger) }
 {
     match policy.find(Name { vehicle, number }) {
         Some(entry) => MessageRow::Confirm {
@@ -49,7 +49,7 @@ fn having_heard(row: VehicleRow, number: u32) -> VehicleRow
 
 // Asks the policy, and replies what it answers.
 fn ask<P: Policy>(policy: &mut P, request: Request) -> MessageRow
-    ensures { Asked (conduct view asks releases advances) policy.old request policy.new result }
+    ensures { Asked (conduct P.view P.asks P.releases P.advances) policy.old request policy.new result }
 {
     let vehicle = request.vehicle;
     let number = request.number;
@@ -80,8 +80,8 @@ pub(crate) fn judge<P: Policy>(
     distance: u32,
 ) -> (VehicleRow, Option<MessageRow>)
     requires new { row.heard < number }
-    requires based { Based (view policy.old) vehicle base }
-    ensures { Renewed (conduct view asks releases advances) policy.old row vehicle number «entry» distance base (outcome result.0 policy.new result.1) }
+    requires based { Based (P.view policy.old) vehicle base }
+    ensures { Renewed (conduct P.view P.asks P.releases P.advances) policy.old row vehicle number «entry» distance base (outcome result.0 policy.new result.1) }
 {
     release_stale(policy, vehicle, base);
     let request = Request {
@@ -103,8 +103,8 @@ pub(crate) fn deny<P: Policy>(
     base: u32,
 ) -> (VehicleRow, Option<MessageRow>)
     requires new { row.heard < number }
-    requires gone { is_some (found (name vehicle base) (view policy.old).ledger) ≡ false }
-    ensures { Denied (conduct view asks releases advances) policy.old row vehicle number base (outcome result.0 policy.new result.1) }
+    requires gone { is_some (found (name vehicle base) (P.view policy.old).ledger) ≡ false }
+    ensures { Denied (conduct P.view P.asks P.releases P.advances) policy.old row vehicle number base (outcome result.0 policy.new result.1) }
 {
     release_stale(policy, vehicle, Some(base));
     let denial = Denial::Because(Reason::BaseGone);

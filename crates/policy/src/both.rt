@@ -10,9 +10,9 @@ fn ask_in_turn<P: Policy>(
     second: &mut P,
     request: &Request,
 ) -> (Result<(), Denial>, Result<(), Denial>)
-    ensures first { asks first.old request.now result.0 first.new }
-    ensures second { asks second.old request.now result.1 second.new }
-    ensures alike { view first.old ≡ view second.old → gate first.old request.now ≡ gate second.old request.now → result.0 ≡ result.1 }
+    ensures first { P.asks first.old request.now result.0 first.new }
+    ensures second { P.asks second.old request.now result.1 second.new }
+    ensures alike { P.view first.old ≡ P.view second.old → P.gate first.old request.now ≡ P.gate second.old request.now → result.0 ≡ result.1 }
 {
     (first.ask(request), second.ask(request))
 }
@@ -24,9 +24,9 @@ pub fn ask_both<P: Policy>(
     second: &mut P,
     request: &Request,
 ) -> (Result<(), Denial>, Result<(), Denial>)
-    ensures first { asks first.old request.now result.0 first.new }
-    ensures second { asks second.old request.now result.1 second.new }
-    ensures alike { view first.old ≡ view second.old → gate first.old request.now ≡ gate second.old request.now → result.0 ≡ result.1 }
+    ensures first { P.asks first.old request.now result.0 first.new }
+    ensures second { P.asks second.old request.now result.1 second.new }
+    ensures alike { P.view first.old ≡ P.view second.old → P.gate first.old request.now ≡ P.gate second.old request.now → result.0 ≡ result.1 }
 {
     ask_in_turn(first, second, request)
 }

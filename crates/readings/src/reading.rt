@@ -26,7 +26,7 @@ pub fn moment<P: Policy>(
     vehicles: &[VehicleRow],
     mail: &[MessageRow],
 ) -> Result<Moment, CallFault>
-    ensures answer { Ruled (common view (stage run.now vehicles.now mail.now policy.now)) (MomentOf run.now) (Unit {0}) result }
+    ensures answer { Ruled (common P.view (stage run.now vehicles.now mail.now policy.now)) (MomentOf run.now) (Unit {0}) result }
 {
     ready(run, policy, vehicles, mail)?;
     Ok(Moment {
@@ -43,7 +43,7 @@ fn record_at<P: Policy>(
     mail: &[MessageRow],
     vehicle: u32,
 ) -> Result<Vehicle, CallFault>
-    ensures answer { Ruled (of_vehicle view (stage run.now vehicles.now mail.now policy.now) vehicle) (VehicleAt (stage run.now vehicles.now mail.now policy.now) vehicle) (Unit {0}) result }
+    ensures answer { Ruled (of_vehicle P.view (stage run.now vehicles.now mail.now policy.now) vehicle) (VehicleAt (stage run.now vehicles.now mail.now policy.now) vehicle) (Unit {0}) result }
 {
     let row = admit_vehicle(run, policy, vehicles, mail, vehicle)?;
     match Vehicle::of(run.junction, row) {
@@ -60,7 +60,7 @@ pub fn vehicle_at<P: Policy>(
     mail: &[MessageRow],
     vehicle: u32,
 ) -> Result<Vehicle, CallFault>
-    ensures answer { Ruled (of_vehicle view (stage run.now vehicles.now mail.now policy.now) vehicle) (VehicleAt (stage run.now vehicles.now mail.now policy.now) vehicle) (Unit {0}) result }
+    ensures answer { Ruled (of_vehicle P.view (stage run.now vehicles.now mail.now policy.now) vehicle) (VehicleAt (stage run.now vehicles.now mail.now policy.now) vehicle) (Unit {0}) result }
 {
     record_at(run, policy, vehicles, mail, vehicle)
 }
@@ -73,7 +73,7 @@ pub fn tiles_of<P: Policy>(
     mail: &[MessageRow],
     vehicle: u32,
 ) -> Result<TileSet, CallFault>
-    ensures answer { Ruled (of_vehicle view (stage run.now vehicles.now mail.now policy.now) vehicle) (Stands run.now.junction run.now.clock (row_of (world (stage run.now vehicles.now mail.now policy.now)).vehicles vehicle)) (Unit {0}) result }
+    ensures answer { Ruled (of_vehicle P.view (stage run.now vehicles.now mail.now policy.now) vehicle) (Stands run.now.junction run.now.clock (row_of (world (stage run.now vehicles.now mail.now policy.now)).vehicles vehicle)) (Unit {0}) result }
 {
     let record = record_at(run, policy, vehicles, mail, vehicle)?;
     Ok(record.tiles(run.clock))
@@ -87,7 +87,7 @@ pub fn delay_of<P: Policy>(
     mail: &[MessageRow],
     vehicle: u32,
 ) -> Result<Option<u32>, CallFault>
-    ensures answer { Ruled (of_vehicle view (stage run.now vehicles.now mail.now policy.now) vehicle) (λ d. d ≡ delay_in run.now.junction (row_of (world (stage run.now vehicles.now mail.now policy.now)).vehicles vehicle)) (Unit {0}) result }
+    ensures answer { Ruled (of_vehicle P.view (stage run.now vehicles.now mail.now policy.now) vehicle) (λ d. d ≡ delay_in run.now.junction (row_of (world (stage run.now vehicles.now mail.now policy.now)).vehicles vehicle)) (Unit {0}) result }
 {
     let record = record_at(run, policy, vehicles, mail, vehicle)?;
     Ok(record.delay())
@@ -100,7 +100,7 @@ fn message_in<P: Policy>(
     mail: &[MessageRow],
     message: u32,
 ) -> Result<Message, CallFault>
-    ensures answer { Ruled (of_message view (stage run.now vehicles.now mail.now policy.now) message) (MessageAt (stage run.now vehicles.now mail.now policy.now) message) (Unit {0}) result }
+    ensures answer { Ruled (of_message P.view (stage run.now vehicles.now mail.now policy.now) message) (MessageAt (stage run.now vehicles.now mail.now policy.now) message) (Unit {0}) result }
 {
     admit_message(run, policy, vehicles, mail, message)?;
     match Message::of(mail[message as usize - 1]) {
@@ -117,7 +117,7 @@ pub fn message_at<P: Policy>(
     mail: &[MessageRow],
     message: u32,
 ) -> Result<Message, CallFault>
-    ensures answer { Ruled (of_message view (stage run.now vehicles.now mail.now policy.now) message) (MessageAt (stage run.now vehicles.now mail.now policy.now) message) (Unit {0}) result }
+    ensures answer { Ruled (of_message P.view (stage run.now vehicles.now mail.now policy.now) message) (MessageAt (stage run.now vehicles.now mail.now policy.now) message) (Unit {0}) result }
 {
     message_in(run, policy, vehicles, mail, message)
 }

@@ -12,7 +12,7 @@ use reservation::request::Request;
 
 // Whether the request, of the footprint's junction, is in range and clashes with the footprint's.
 fn clashes_with<C: Clashes>(request: &Request, footprint: &Footprint) -> bool
-    ensures { Decides result ((in_range footprint.now.junction request.now ≡ true) × clash footprint.now.junction request.now footprint.now.request) }
+    ensures { Decides result ((in_range footprint.now.junction request.now ≡ true) × C.clash footprint.now.junction request.now footprint.now.request) }
 {
     match Footprint::of(footprint.junction, request) {
         Some(other) => match C::clashes(&other, footprint) {
@@ -25,14 +25,14 @@ fn clashes_with<C: Clashes>(request: &Request, footprint: &Footprint) -> bool
 
 // Whether the request is a rival of the footprint's.
 fn is_rival<C: Clashes>(request: &Request, footprint: &Footprint) -> bool
-    ensures { Decides result (Rival clash footprint.now.junction footprint.now.request request.now) }
+    ensures { Decides result (Rival C.clash footprint.now.junction footprint.now.request request.now) }
 {
     request.vehicle != footprint.request.vehicle && clashes_with::<C>(request, footprint)
 }
 
 // The name of the first standing request that is a rival.
 fn first_rival<C: Clashes>(standing: &[Standing], footprint: &Footprint) -> Option<Name>
-    ensures { Sought (Rival clash footprint.now.junction footprint.now.request) (requests standing.now) result }
+    ensures { Sought (Rival C.clash footprint.now.junction footprint.now.request) (requests standing.now) result }
 {
     for one in standing {
         if is_rival::<C>(&one.request, footprint) {
@@ -44,7 +44,7 @@ fn first_rival<C: Clashes>(standing: &[Standing], footprint: &Footprint) -> Opti
 
 // The name of the earliest standing request that is in the way of the footprint's.
 pub fn earliest_rival<C: Clashes>(standing: &[Standing], footprint: &Footprint) -> Option<Name>
-    ensures answer { Sought (Rival clash footprint.now.junction footprint.now.request) (requests standing.now) result }
+    ensures answer { Sought (Rival C.clash footprint.now.junction footprint.now.request) (requests standing.now) result }
 {
     first_rival::<C>(standing, footprint)
 }

@@ -3,8 +3,8 @@ ghost use Rattle.std.specs.Prelude.{None};
 ghost use Rattle.rivals.specs.Rivals.{CellClash};
 ghost use Rattle.tile_table.specs.Tables.{Advances, Asks, Releases, marks_of, view_of};
 ghost use Rattle.std.proofs.Common.{sym, ◌∙◌, rules, arith};
-ghost use Rattle.reservation.proofs.Laws.{share-symmetric};
-ghost use Rattle.ledger.proofs.Bounds.{few-requests};
+ghost use Rattle.reservation.proofs.Laws.{share_symmetric};
+ghost use Rattle.ledger.proofs.Bounds.{few_requests};
 
 use super::table::TileTable;
 use grid::junction::Junction;
@@ -27,11 +27,11 @@ impl Policy for TileTable {
 
     ghost advances = { Advances };
 
-    ghost symmetric = { λ j x y e. sym (share-symmetric j x y) ∙ e };
+    ghost symmetric = { λ j x y e. sym (share_symmetric j x y) ∙ e };
 
     ghost covers = { first_of (Prim.search rules, Prim.grind (arith, Self.row.coded.inj)) };
 
-    ghost few = { λ s. few-requests s.ledger };
+    ghost few = { λ s. few_requests s.ledger };
 
     ghost told = { first_of (Prim.search rules, Prim.grind (arith, Self.row.coded.inj)) };
 

@@ -32,7 +32,7 @@ pub fn arrive<P: Policy>(
     body: Body,
     distance: u32,
 ) -> Result<u32, CallFault>
-    ensures answer { Arrives (conduct view asks releases advances) (stage run.old vehicles.old mail.now policy.now) (stage run.new vehicles.new mail.now policy.now) body distance result }
+    ensures answer { Arrives (conduct P.view P.asks P.releases P.advances) (stage run.old vehicles.old mail.now policy.now) (stage run.new vehicles.new mail.now policy.now) body distance result }
 {
     ready(run, policy, vehicles, mail)?;
     if !body.fits(run.junction) || distance < 1 || distance > 2000 {

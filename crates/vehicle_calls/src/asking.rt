@@ -30,7 +30,7 @@ pub fn ask<P: Policy>(
     vehicle: u32,
     entry: u32,
 ) -> Result<u32, CallFault>
-    ensures answer { Asks (conduct view asks releases advances) (stage run.old vehicles.old mail.old policy.now) (stage run.new vehicles.new mail.new policy.now) vehicle entry result }
+    ensures answer { Asks (conduct P.view P.asks P.releases P.advances) (stage run.old vehicles.old mail.old policy.now) (stage run.new vehicles.new mail.new policy.now) vehicle entry result }
 {
     let row = admit_vehicle(run, policy, vehicles, mail, vehicle)?;
     if !may_ask(row.state) {

@@ -31,7 +31,7 @@ pub fn change<P: Policy>(
     vehicle: u32,
     entry: u32,
 ) -> Result<u32, CallFault>
-    ensures answer { Changes (conduct view asks releases advances) (stage run.old vehicles.old mail.old policy.now) (stage run.new vehicles.new mail.new policy.now) vehicle entry result }
+    ensures answer { Changes (conduct P.view P.asks P.releases P.advances) (stage run.old vehicles.old mail.old policy.now) (stage run.new vehicles.new mail.new policy.now) vehicle entry result }
 {
     let row = admit_vehicle(run, policy, vehicles, mail, vehicle)?;
     let Some(held) = kept_claim(row.state) else {
@@ -66,7 +66,7 @@ pub fn cancel<P: Policy>(
     mail: &mut [MessageRow],
     vehicle: u32,
 ) -> Result<(), CallFault>
-    ensures answer { Cancels (conduct view asks releases advances) (stage run.old vehicles.old mail.old policy.now) (stage run.new vehicles.new mail.new policy.now) vehicle result }
+    ensures answer { Cancels (conduct P.view P.asks P.releases P.advances) (stage run.old vehicles.old mail.old policy.now) (stage run.new vehicles.new mail.new policy.now) vehicle result }
 {
     let row = admit_vehicle(run, policy, vehicles, mail, vehicle)?;
     let Some(held) = kept_claim(row.state) else {

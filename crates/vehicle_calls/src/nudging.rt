@@ -46,7 +46,7 @@ pub fn nudge<P: Policy>(
     vehicle: u32,
     by: i32,
 ) -> Result<(), CallFault>
-    ensures answer { Nudges (conduct view asks releases advances) (stage run.now vehicles.old mail.now policy.now) (stage run.now vehicles.new mail.now policy.now) vehicle by result }
+    ensures answer { Nudges (conduct P.view P.asks P.releases P.advances) (stage run.now vehicles.old mail.now policy.now) (stage run.now vehicles.new mail.now policy.now) vehicle by result }
 {
     let row = admit_vehicle(run, policy, vehicles, mail, vehicle)?;
     let State::Crossing { held, lag, nudged } = row.state else {
