@@ -1,4 +1,6 @@
 // The six messages between the vehicles and the manager: their rows, their ranges and their fields.
+#![tactic(auto)]
+
 pub mod fields;
 pub mod kinds;
 pub mod making;
