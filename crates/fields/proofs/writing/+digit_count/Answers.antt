@@ -6,8 +6,8 @@ use Rattle.fields.proofs.writing.+digit_count.Goals as goal
 pub returns-then-n-lt10 : goal.returns-then-n-lt10
 returns-then-n-lt10 t c = sym (length_one c.args.n c.if-n-lt10.true)
 
-pub overflow-add-result : goal.overflow-add-result
-overflow-add-result t c = omega (arith, length-decimal-le 10 c.args.n (omega arith) (omega arith) (omega arith), length-step c.args.n (omega arith) (omega arith))
+pub overflow_add-result : goal.overflow_add-result
+overflow_add-result t c = omega (arith, length-decimal-le 10 c.args.n (omega arith) (omega arith) (omega arith), length-step c.args.n (omega arith) (omega arith))
 
 pub returns : goal.returns
 returns t c = omega (arith, length-step c.args.n (omega arith) (omega arith))

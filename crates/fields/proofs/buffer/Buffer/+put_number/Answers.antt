@@ -7,13 +7,13 @@ use Rattle.fields.proofs.Decimals.{length_one, length-step}
 use Rattle.fields.proofs.buffer.Buffer.+put_number.Goals as goal
 use Rattle.fields.proofs.buffer.Buffer.+put_number.Goals.{then-n-ge10, else-n-ge10}
 
-pub put-number-requires : goal.put-number-requires
-put-number-requires t c = (omega arith, omega (arith, length-step c.args.n (omega arith) (omega arith)))
+pub put_number-requires : goal.put_number-requires
+put_number-requires t c = (omega arith, omega (arith, length-step c.args.n (omega arith) (omega arith)))
 
-pub put-byte-requires : goal.put-byte-requires
-put-byte-requires t c =
+pub put_byte-requires : goal.put_byte-requires
+put_byte-requires t c =
     elim c.if-n-ge10.branch [
-      | then-n-ge10 w ↦ omega (arith, ap (λ (b : Buffer). b.len) w.self-is, w.put-number.ensures.len, length-step c.args.n w.if-n-ge10.true (omega arith))
+      | then-n-ge10 w ↦ omega (arith, ap (λ (b : Buffer). b.len) w.self-is, w.put_number.ensures.len, length-step c.args.n w.if-n-ge10.true (omega arith))
       | else-n-ge10 w ↦ omega (arith, ap (λ (b : Buffer). b.len) w.self-is, length_one c.args.n w.if-n-ge10.false)
     ]
 
@@ -21,13 +21,13 @@ pub returns : goal.returns
 returns t c =
     elim c.if-n-ge10.branch [
       | then-n-ge10 w ↦ record {
-        text = c.put-byte.ensures.text ∙ ap (λ (b : Buffer). text_in b ++ ((48 + c.args.n % 10) ∷ [])) w.self-is ∙ ap (λ l. l ++ ((48 + c.args.n % 10) ∷ [])) w.put-number.ensures.text ∙ append_assoc (text_in c.args.self.now) (decimal (c.args.n / 10)) ((48 + c.args.n % 10) ∷ []) ∙ ap (λ l. text_in c.args.self.now ++ l) (sym (decimal_step c.args.n w.if-n-ge10.true (omega arith)));
-        len = omega (arith, c.put-byte.ensures.len, ap (λ (b : Buffer). b.len) w.self-is, w.put-number.ensures.len, length-step c.args.n w.if-n-ge10.true (omega arith));
+        text = c.put_byte.ensures.text ∙ ap (λ (b : Buffer). text_in b ++ ((48 + c.args.n % 10) ∷ [])) w.self-is ∙ ap (λ l. l ++ ((48 + c.args.n % 10) ∷ [])) w.put_number.ensures.text ∙ append_assoc (text_in c.args.self.now) (decimal (c.args.n / 10)) ((48 + c.args.n % 10) ∷ []) ∙ ap (λ l. text_in c.args.self.now ++ l) (sym (decimal_step c.args.n w.if-n-ge10.true (omega arith)));
+        len = omega (arith, c.put_byte.ensures.len, ap (λ (b : Buffer). b.len) w.self-is, w.put_number.ensures.len, length-step c.args.n w.if-n-ge10.true (omega arith));
       }
       | else-n-ge10 w ↦
           let one : c.args.n % 10 ≡ c.args.n = omega (arith, w.if-n-ge10.false) in
           record {
-            text = c.put-byte.ensures.text ∙ ap (λ (b : Buffer). text_in b ++ ((48 + c.args.n % 10) ∷ [])) w.self-is ∙ ap (λ d. text_in c.args.self.now ++ ((48 + d) ∷ [])) one ∙ ap (λ l. text_in c.args.self.now ++ l) (sym (decimal_digit c.args.n w.if-n-ge10.false));
-            len = omega (arith, c.put-byte.ensures.len, ap (λ (b : Buffer). b.len) w.self-is, length_one c.args.n w.if-n-ge10.false);
+            text = c.put_byte.ensures.text ∙ ap (λ (b : Buffer). text_in b ++ ((48 + c.args.n % 10) ∷ [])) w.self-is ∙ ap (λ d. text_in c.args.self.now ++ ((48 + d) ∷ [])) one ∙ ap (λ l. text_in c.args.self.now ++ l) (sym (decimal_digit c.args.n w.if-n-ge10.false));
+            len = omega (arith, c.put_byte.ensures.len, ap (λ (b : Buffer). b.len) w.self-is, length_one c.args.n w.if-n-ge10.false);
           }
     ]
