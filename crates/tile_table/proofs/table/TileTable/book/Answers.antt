@@ -24,17 +24,17 @@ invariant_of-self c =
     let in_range = subst (λ j. in_range j f.request ≡ true) c.requires.one f.ranged in
     let sound = subst (λ l. Sound s.junction s.clock l new) (sym (more (goal.at.invariant_of-self c).After-enter))
     (sound_asked s.junction s.clock rs s.marks (sound_of s) f.request in_range c.requires.time c.requires.alone new painted) in
-    let ends : last_tick_of f.junction f.request ≡ last_tick_of s.junction f.request = ap (λ j. last_tick_of j f.request) c.requires.one in (
-      s.early,
-      (
-        sound.ranged,
-        (
+    let ends : last_tick_of f.junction f.request ≡ last_tick_of s.junction f.request = ap (λ j. last_tick_of j f.request) c.requires.one in
+    record {
+      early = s.early;
+      ranged = sound.ranged;
+      ending =
           each_more (λ x. x.last_tick ≡ last_tick_of s.junction x.request) (entries s.ledger) (entries c.enter.new.ledger) (standing_of f)
-              c.enter.ensures.entries s.ending ends,
-          (sound.ahead, (sound.apart, (sound.agree, tt))),
-        ),
-      ),
-    )
+              c.enter.ensures.entries s.ending ends;
+      ahead = sound.ahead;
+      apart = sound.apart;
+      agree = sound.agree;
+    }
 
 pub returns : goal.returns
 returns c = ap (with_ledger (view_of c.args.self.now)) (more (goal.at.returns c).After-enter)

@@ -47,16 +47,16 @@ invariant_of-self c =
     let cleared = subst (λ l. Painted s.clock (covers (Named n) s.junction (requests l)) 0 s.marks mid) c.as_slice.ensures.entries c.clear_named.ensures in
     let again = subst (λ l. Painted s.clock (covers (Of n.vehicle) s.junction l) n.vehicle mid new) (ap requests c.as_slice-2.ensures.entries ∙ fewer at) c.mark_vehicle.ensures in
     let sound = subst (λ l. Sound s.junction s.clock l new) (sym (fewer at))
-    (sound_released s.junction s.clock rs s.marks (sound_of s) n mid new cleared again) in (
-      s.early,
-      (
-        sound.ranged,
-        (
-          each_kept (λ x. x.last_tick ≡ last_tick_of s.junction x.request) (other n) (entries s.ledger) (entries c.remove.new.self) c.remove.ensures.after s.ending,
-          (sound.ahead, (sound.apart, (sound.agree, tt))),
-        ),
-      ),
-    )
+    (sound_released s.junction s.clock rs s.marks (sound_of s) n mid new cleared again) in
+    record {
+      early = s.early;
+      ranged = sound.ranged;
+      ending =
+          each_kept (λ x. x.last_tick ≡ last_tick_of s.junction x.request) (other n) (entries s.ledger) (entries c.remove.new.self) c.remove.ensures.after s.ending;
+      ahead = sound.ahead;
+      apart = sound.apart;
+      agree = sound.agree;
+    }
 
 pub returns : goal.returns
 returns c = ap (with_ledger (view_of c.args.self.now)) (fewer (goal.at.returns c).After-remove)

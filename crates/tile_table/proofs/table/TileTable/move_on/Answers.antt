@@ -21,16 +21,16 @@ invariant_of-self c =
     let new = c.pass_tick.new.marks in
     let early : s.clock + 1 ≤ 1000000 = omega arith in
     let sound = subst (λ l. Sound s.junction (s.clock + 1) l new) (sym (fewer at))
-    (sound_advanced s.junction s.clock (requests (entries s.ledger)) s.marks (sound_of s) new c.pass_tick.ensures.here c.pass_tick.ensures.others) in (
-      early,
-      (
-        sound.ranged,
-        (
-          each_kept (λ x. x.last_tick ≡ last_tick_of s.junction x.request) (lasts (s.clock + 1)) (entries s.ledger) (entries c.pass_tick.new.ledger) c.pass_tick.ensures.entries s.ending,
-          (sound.ahead, (sound.apart, (sound.agree, tt))),
-        ),
-      ),
-    )
+    (sound_advanced s.junction s.clock (requests (entries s.ledger)) s.marks (sound_of s) new c.pass_tick.ensures.here c.pass_tick.ensures.others) in
+    record {
+      early = early;
+      ranged = sound.ranged;
+      ending =
+          each_kept (λ x. x.last_tick ≡ last_tick_of s.junction x.request) (lasts (s.clock + 1)) (entries s.ledger) (entries c.pass_tick.new.ledger) c.pass_tick.ensures.entries s.ending;
+      ahead = sound.ahead;
+      apart = sound.apart;
+      agree = sound.agree;
+    }
 
 pub returns : goal.returns
 returns c =
