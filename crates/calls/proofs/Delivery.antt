@@ -55,7 +55,7 @@ module _ {P : Type 0} (c : Conduct P) (s : Stage P) (i : ℕ) (r : Ruled {X = Un
                   subst (λ m. Delivered c (world s) i m (lost (world s) i)) (is_m ∙ read d) (dropped (λ x. none x.0 (omega (arith, x.1, vehicles_long s whole))) refl),
                   replied_later c.view s (lost (world s) i) i None refl
                       (record { junction = j ∙ agrees.junction; clock = k ∙ agrees.clock; vehicles_are = n ∙ sym (vehicles_long s whole); mail_are = refl })
-                      (kept_part s.vehicles s.run.vehicles whole.vehicle-count) gone,
+                      (kept_part s.vehicles s.run.vehicles whole.vehicle_count) gone,
                 ),
               ),
             ),

@@ -52,5 +52,5 @@ module _ {P : Type 0} (c : Conduct P)
     acts_still (message.Change v q b e d) o a = judged_still v q e d (Some b) o a
     acts_still (message.Cancel v q) o a = released_still p _ a.0 o.policy a.1
     acts_still (message.Done v) o a = cleared_still v None p o.policy a.0
-    acts_still (message.Confirm v q e) o a = subst (λ t. Moment (c.view p) (c.view t)) (sym a.policy-is) (still (c.view p))
-    acts_still (message.Reject v q why) o a = subst (λ t. Moment (c.view p) (c.view t)) (sym a.policy-is) (still (c.view p))
+    acts_still (message.Confirm v q e) o a = subst (λ t. Moment (c.view p) (c.view t)) (sym a.policy_is) (still (c.view p))
+    acts_still (message.Reject v q why) o a = subst (λ t. Moment (c.view p) (c.view t)) (sym a.policy_is) (still (c.view p))

@@ -16,7 +16,7 @@ use Rattle.lent.proofs.Later.{mail_long, vehicles_long}
 module _ {P : Type 0} (c : Conduct P) (s : Stage P) (h : Whole s.run s.vehicles s.mail) (a : Agrees s.run (c.view s.policy))
     (passes : (s : P) (a : Result (Unit {0}) CallFault) (t : P) → c.advances s a t → Advanced (c.view s) a (c.view t)) where
   fit : Fit s.run.junction (world s).vehicles s.mail s.run.mail
-  fit = record { rows = h.rows; few = omega (arith, vehicles_long s h, h.vehicles, h.vehicle-count); within = h.mail-count }
+  fit = record { rows = h.rows; few = omega (arith, vehicles_long s h, h.vehicles, h.vehicle_count); within = h.mail_count }
 
   -- the rows that a run counts, as a slice from 0 on is read
   abbrev front : Run → List VehicleRow

@@ -310,7 +310,7 @@ module _ {P : Type 0} (clash : Junction → Request → Request → Type 0) (c :
       → Responds c p row v m o → After o
   told_after m o grant t =
       let k = by_told m t.state o.reply grant t.told in
-      subst (λ p'. Inv clash (c.view p') (set vs (v - 1) o.row) (replied ms i o.reply)) (sym t.policy-is)
+      subst (λ p'. Inv clash (c.view p') (set vs (v - 1) o.row) (replied ms i o.reply)) (sym t.policy_is)
       (subst (λ r. Inv clash view (set vs (v - 1) r) (replied ms i o.reply)) (sym t.row_is) k)
 
   -- the manager hears a CANCEL or a DONE, and replies nothing

@@ -104,8 +104,8 @@ module _ {P : Type 0} (clash : Junction → Request → Request → Type 0) (c :
   opened_safe vs ms p r opens =
       let counts : Counts (c.view p) 0 0 r = accepted_done opens in
       record {
-        inv = subst (λ n. Inv clash (c.view p) (take n vs) (take r.mail ms)) (sym counts.vehicles-are)
-            (subst (λ n. Inv clash (c.view p) (take 0 vs) (take n ms)) (sym counts.mail-are) (inv_new clash (c.view p) opens.by.1.0.1));
+        inv = subst (λ n. Inv clash (c.view p) (take n vs) (take r.mail ms)) (sym counts.vehicles_are)
+            (subst (λ n. Inv clash (c.view p) (take 0 vs) (take n ms)) (sym counts.mail_are) (inv_new clash (c.view p) opens.by.1.0.1));
         agrees = record { junction = counts.junction; clock = counts.clock };
       }
 
@@ -130,9 +130,9 @@ module _ {P : Type 0} (clash : Junction → Request → Request → Type 0) (c :
     came : (w : World P) → Later c.view s w s' → Inv clash (c.view w.policy) w.vehicles w.mail → Safe clash c s'
     came w l inv =
         let vehicles : (world s').vehicles ≡ w.vehicles =
-        ap (take s'.run.vehicles) l.vehicles ∙ take_at w.vehicles (drop (length w.vehicles) s.vehicles) s'.run.vehicles (sym l.run.vehicles-are) in
+        ap (take s'.run.vehicles) l.vehicles ∙ take_at w.vehicles (drop (length w.vehicles) s.vehicles) s'.run.vehicles (sym l.run.vehicles_are) in
         let mail : (world s').mail ≡ w.mail =
-        ap (take s'.run.mail) l.mail ∙ take_at w.mail (drop (length w.mail) s.mail) s'.run.mail (sym l.run.mail-are) in
+        ap (take s'.run.mail) l.mail ∙ take_at w.mail (drop (length w.mail) s.mail) s'.run.mail (sym l.run.mail_are) in
         let same : c.view s'.policy ≡ c.view w.policy = ap c.view l.policy in
         record {
           inv = subst (λ x. Inv clash x (world s').vehicles (world s').mail) (sym same)
@@ -141,7 +141,7 @@ module _ {P : Type 0} (clash : Junction → Request → Request → Type 0) (c :
         }
 
     in_mail : (i : ℕ) → Whole s.run s.vehicles s.mail → 1 ≤ i → i ≤ s.run.mail → i - 1 < length ms
-    in_mail i whole low high = omega (arith, length-take-le s.run.mail s.mail whole.mail-count, low, high)
+    in_mail i whole low high = omega (arith, length-take-le s.run.mail s.mail whole.mail_count, low, high)
 
     pub makes_safe : (x : Call) (a : Answer) → Makes c s x a s' → Safe clash c s'
     makes_safe call.Open a (Ok r, m, is) = reopened_safe s s' r m

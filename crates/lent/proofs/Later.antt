@@ -16,22 +16,22 @@ use Rattle.lent.proofs.Memory.{kept_part, push_part, put_part}
 -- what is counted, in whole memories
 module _ {P : Type 0} (s : Stage P) (h : Whole s.run s.vehicles s.mail) where
   pub vehicles_long : length (world s).vehicles ≡ s.run.vehicles
-  vehicles_long = length-take-le s.run.vehicles s.vehicles h.vehicle-count
+  vehicles_long = length-take-le s.run.vehicles s.vehicles h.vehicle_count
 
   pub mail_long : length (world s).mail ≡ s.run.mail
-  mail_long = length-take-le s.run.mail s.mail h.mail-count
+  mail_long = length-take-le s.run.mail s.mail h.mail_count
 
   pub arrived : (v : ℕ) → 1 ≤ v → v ≤ s.run.vehicles → Arrived (world s).vehicles v
   arrived v lo hi = (lo, omega (arith, hi, vehicles_long))
 
   pub row_read : (v : ℕ) (d : VehicleRow) → 1 ≤ v → v ≤ s.run.vehicles → get_or s.vehicles (v - 1) d ≡ row_of (world s).vehicles v
   row_read v d lo hi =
-      get_or_default s.vehicles (v - 1) d blank (omega (arith, lo, hi, h.vehicle-count))
+      get_or_default s.vehicles (v - 1) d blank (omega (arith, lo, hi, h.vehicle_count))
       ∙ sym (get_or-take s.run.vehicles s.vehicles (v - 1) blank (omega (arith, lo, hi)))
 
   pub message_read : (i : ℕ) (d : MessageRow) → 1 ≤ i → i ≤ s.run.mail → get_or s.mail (i - 1) d ≡ message_of (world s).mail i
   message_read i d lo hi =
-      get_or_default s.mail (i - 1) d no_mail (omega (arith, lo, hi, h.mail-count))
+      get_or_default s.mail (i - 1) d no_mail (omega (arith, lo, hi, h.mail_count))
       ∙ sym (get_or-take s.run.mail s.mail (i - 1) no_mail (omega (arith, lo, hi)))
 
   pub row_good : (v : ℕ) → Arrived (world s).vehicles v → Good s.run.junction (row_of (world s).vehicles v)
@@ -42,7 +42,7 @@ module _ {P : Type 0} (s : Stage P) (h : Whole s.run s.vehicles s.mail) where
 
   pub row_put : (v : ℕ) (x : VehicleRow) → 1 ≤ v → v ≤ s.run.vehicles
       → set s.vehicles (v - 1) x ≡ set (world s).vehicles (v - 1) x ++ drop (length (set (world s).vehicles (v - 1) x)) s.vehicles
-  row_put v x lo hi = put_part s.vehicles s.run.vehicles (v - 1) x (omega (arith, lo, hi)) h.vehicle-count
+  row_put v x lo hi = put_part s.vehicles s.run.vehicles (v - 1) x (omega (arith, lo, hi)) h.vehicle_count
 
 pushed_count : {X : Type 0} (xs : List X) (x : X) (n : ℕ) → length xs ≡ n → n + 1 ≡ length (xs ++ x ∷ [])
 pushed_count xs x n is = sym (length_push xs x ∙ ap (λ k. k + 1) is)
@@ -60,7 +60,7 @@ module _ {P : Type 0} (view : P → View) (s : Stage P) (h : Whole s.run s.vehic
       record {
         run = counts (v ∙ pushed_count (world s).vehicles x _ (vehicles_long s h)) (m ∙ sym (mail_long s h));
         vehicles = push_part s.vehicles s.run.vehicles x free;
-        mail = kept_part s.mail s.run.mail h.mail-count;
+        mail = kept_part s.mail s.run.mail h.mail_count;
         policy = refl;
       }
 
@@ -70,7 +70,7 @@ module _ {P : Type 0} (view : P → View) (s : Stage P) (h : Whole s.run s.vehic
   sent x y is free v m =
       record {
         run = counts (v ∙ sym (vehicles_long s h)) (m ∙ pushed_count (world s).mail x _ (mail_long s h));
-        vehicles = kept_part s.vehicles s.run.vehicles h.vehicle-count;
+        vehicles = kept_part s.vehicles s.run.vehicles h.vehicle_count;
         mail = ap (set s.mail s.run.mail) is ∙ push_part s.mail s.run.mail x free;
         policy = refl;
       }
@@ -83,7 +83,7 @@ module _ {P : Type 0} (view : P → View) (s : Stage P) (h : Whole s.run s.vehic
         record {
           run = counts (n ∙ row_count s h v x) (m ∙ sym (mail_long s h));
           vehicles = row_put s h v x lo hi;
-          mail = kept_part s.mail s.run.mail h.mail-count;
+          mail = kept_part s.mail s.run.mail h.mail_count;
           policy = refl;
         }
 
@@ -107,7 +107,7 @@ pub replied_later : {P : Type 0} (view : P → View) (s : Stage P) (w : World P)
 replied_later view s w i reply {r} {vs} {ms} is counts rows settled =
     let long : r.mail ≡ length w.mail = settled.counted ∙ ap length (sym is) in
     record {
-      run = record { junction = counts.junction; clock = counts.clock; vehicles_are = counts.vehicles-are; mail_are = long };
+      run = record { junction = counts.junction; clock = counts.clock; vehicles_are = counts.vehicles_are; mail_are = long };
       vehicles = rows;
       mail = settled.memory ∙ ap (λ xs. xs ++ drop r.mail s.mail) (sym is) ∙ ap (λ k. w.mail ++ drop k s.mail) long;
       policy = refl;

@@ -108,7 +108,7 @@ module _ {P : Type 0} (c : Conduct P) (alike : P → P → Type 0) (like : Liken
         record {
           row = r.row_is ∙ ap (λ t. in_state row t.0) same ∙ sym s.row_is;
           reply = ap (λ t. t.1) same;
-          policy = subst (alike x.policy) (r.policy-is ∙ sym s.policy-is) (like.itself x.policy);
+          policy = subst (alike x.policy) (r.policy_is ∙ sym s.policy_is) (like.itself x.policy);
         }
 
     acts_once : (m : MessageRow) (x y : Outcome P) → Acts c p row m x → Acts c p row m y → SameOutcome alike x y

@@ -28,7 +28,7 @@ returns g c =
                     vehicles_are = rest.vehicles ∙ sym (vehicles_long s whole);
                     mail_are = refl;
                   })
-                  (kept_part s.vehicles s.run.vehicles whole.vehicle-count)
+                  (kept_part s.vehicles s.run.vehicles whole.vehicle_count)
                   c.take_out.ensures.mail,
             ),
           ),
