@@ -1,11 +1,18 @@
 // When two requests clash at a junction that lets one vehicle through at a time.
-ghost use Rattle.std.specs.Prelude.{◌≡◌, Decides};
+ghost use Rattle.std.specs.Prelude.{◌≡◌, Decides, true};
+ghost use Rattle.reservation.specs.Cells.{is_same_junction};
 ghost use Rattle.reservation.specs.Requests.{first_tick_of};
 ghost use Rattle.bureau.specs.Spans.{SpanClash};
 
+use grid::junction::Junction;
 use reservation::footprint::Footprint;
-use reservation::request::Request;
 use rivals::clashes::Clashes;
+
+fn same_junction(one: Junction, other: Junction) -> bool
+    ensures { result ≡ is_same_junction one other }
+{
+    one.lanes == other.lanes && one.buffer == other.buffer
+}
 
 // The first tick of the span.
 fn first_tick(footprint: &Footprint) -> u32
@@ -19,7 +26,7 @@ fn first_tick(footprint: &Footprint) -> u32
 
 // Whether the two spans overlap.
 fn spans_overlap(one: &Footprint, other: &Footprint) -> bool
-    requires { one.now.junction ≡ other.now.junction }
+    requires { is_same_junction one.now.junction other.now.junction ≡ true }
     ensures { Decides result (SpanClash one.now.junction one.now.request other.now.request) }
 {
     first_tick(one) <= other.last_tick() && first_tick(other) <= one.last_tick()
@@ -31,10 +38,10 @@ pub struct BySpan;
 impl Clashes for BySpan {
     ghost clash = { SpanClash };
 
-    fn clashes(request: &Request, footprint: &Footprint) -> bool {
-        match Footprint::of(footprint.junction, request) {
-            Some(other) => spans_overlap(&other, footprint),
-            None => false,
+    fn clashes(one: &Footprint, other: &Footprint) -> Option<bool> {
+        if !same_junction(one.junction, other.junction) {
+            return None;
         }
+        Some(spans_overlap(one, other))
     }
 }

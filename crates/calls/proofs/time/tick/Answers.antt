@@ -12,7 +12,7 @@ returns-in_err-go_on g c =
     let s = stage c.args.run.now c.args.vehicles.now c.args.mail.now c.args.policy.now in
     let r = c.in_ok-ready.ensures.answer.by in
     let t = c.go_on.new.policy in
-    let p = err_from_is_err_and c.from-residual-in_err-go_on.result c.from-residual-in_err-go_on.ensures.1 in
+    let p = err_from_is_err_and c.from_residual-in_err-go_on.result c.from_residual-in_err-go_on.ensures.1 in
     let e = c.in_err-go_on.ensures in
     record {
       answer = subst (Ticks k s (stage c.go_on.new.run s.vehicles s.mail t)) (sym (p.1 ∙ ap Err p.2))

@@ -4,7 +4,7 @@ use Rattle.lines.proofs.reading.read_message.Goals as goal
 
 pub returns-in-err-fields : goal.returns-in-err-fields
 returns-in-err-fields c =
-    let p = err_from_is_err_and c.from-residual.result c.from-residual.ensures.1 in
+    let p = err_from_is_err_and c.from_residual.result c.from_residual.ensures.1 in
     rw (p.1, p.2) (bad_field _ _ _ c.requires c.in-err-fields.field-0.0 c.in-err-fields.ensures)
 
 pub returns-in-Some : goal.returns-in-Some

@@ -5,7 +5,7 @@ use Rattle.lines.proofs.round.read_then_write.Goals as goal
 
 pub returns-in-err-message : goal.returns-in-err-message
 returns-in-err-message c =
-    let p = err_from_is_err_and c.from-residual.result c.from-residual.ensures.1 in
+    let p = err_from_is_err_and c.from_residual.result c.from_residual.ensures.1 in
     record { same = rw (p.1, p.2) (c.in-err-message.ensures.answer, refl) }
 
 -- 64 bytes are room for the line of any message

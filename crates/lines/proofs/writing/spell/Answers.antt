@@ -8,12 +8,12 @@ use Rattle.lines.proofs.writing.spell.Goals as goal
 
 pub returns-in-err-push-2 : goal.returns-in-err-push-2
 returns-in-err-push-2 c =
-    let p = err_from_is_err_and c.from-residual-in-err-push-2.result c.from-residual-in-err-push-2.ensures.1 in
+    let p = err_from_is_err_and c.from_residual-in-err-push-2.result c.from_residual-in-err-push-2.ensures.1 in
     rw p.1 (omega (arith, c.in-err-push-2.ensures.answer.0, comma_within (line_of c.args.row.now) (text_in c.loop-n.line) (take (c.numbers-of-numbers.result.count - 0) c.numbers-of-numbers.result.values) c.loop-n.n-index c.loop-n.invariant c.loop-n-test.true))
 
 pub returns-in-err-push-number : goal.returns-in-err-push-number
 returns-in-err-push-number c =
-    let p = err_from_is_err_and c.from-residual-in-err-push-number.result c.from-residual-in-err-push-number.ensures.1 in
+    let p = err_from_is_err_and c.from_residual-in-err-push-number.result c.from_residual-in-err-push-number.ensures.1 in
     let over = rw c.in-ok-push-2.ensures.answer at c.in-err-push-number.ensures.answer.0 in
     rw p.1 (omega (arith, over, number_within (line_of c.args.row.now) (text_in c.loop-n.line) (take (c.numbers-of-numbers.result.count - 0) c.numbers-of-numbers.result.values) c.loop-n.n-index c.loop-n.invariant c.loop-n-test.true))
 

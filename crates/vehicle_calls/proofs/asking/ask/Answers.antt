@@ -9,7 +9,7 @@ use Rattle.vehicle_calls.proofs.asking.ask.Goals as goal
 
 pub returns-in_err-row : goal.returns-in_err-row
 returns-in_err-row g c =
-    let p = err_from_is_err_and c.from-residual.result c.from-residual.ensures.1 in
+    let p = err_from_is_err_and c.from_residual.result c.from_residual.ensures.1 in
     record { answer = refused c.in_err-row.ensures.answer _ _ _ _ (p.1 ∙ ap Err p.2) refl }
 
 pub returns-then-not-is_lead : goal.returns-then-not-is_lead
@@ -35,7 +35,7 @@ returns-in_err-may_send g c =
     let m = g.P.Policy in
     let k = conduct m.view m.asks m.releases m.advances in
     let s = stage c.args.run.now c.args.vehicles.now c.args.mail.now c.args.policy.now in
-    let p = err_from_is_err_and c.from-residual-in_err-may_send.result c.from-residual-in_err-may_send.ensures.1 in
+    let p = err_from_is_err_and c.from_residual-in_err-may_send.result c.from_residual-in_err-may_send.ensures.1 in
     let may = c.may_ask.ensures.0 c.if-not-may_ask.false in
     let lead = c.is_lead.ensures.0 c.if-not-is_lead.false in
     record {

@@ -8,7 +8,7 @@ use Rattle.vehicle_calls.proofs.holding.change.Goals as goal
 
 pub returns-in_err-row : goal.returns-in_err-row
 returns-in_err-row g c =
-    let p = err_from_is_err_and c.from-residual.result c.from-residual.ensures.1 in
+    let p = err_from_is_err_and c.from_residual.result c.from_residual.ensures.1 in
     record { answer = refused c.in_err-row.ensures.answer _ _ _ _ (p.1 ∙ ap Err p.2) refl }
 
 pub may_send-requires : goal.may_send-requires
@@ -23,7 +23,7 @@ returns-in_err-may_send g c =
     let m = g.P.Policy in
     let k = conduct m.view m.asks m.releases m.advances in
     let s = stage c.args.run.now c.args.vehicles.now c.args.mail.now c.args.policy.now in
-    let p = err_from_is_err_and c.from-residual-in_err-may_send.result c.from-residual-in_err-may_send.ensures.1 in
+    let p = err_from_is_err_and c.from_residual-in_err-may_send.result c.from_residual-in_err-may_send.ensures.1 in
     record {
       answer = subst (Changes k s s c.args.vehicle c.args.entry) (sym (p.1 ∙ ap Err p.2))
           (changes_refused k s c.args.vehicle _ c.in_ok-row.ensures.answer c.args.entry _ c.in_err-may_send.ensures _ c.in-Some.ensures);

@@ -14,7 +14,7 @@ invariant_of-self c =
     let f = c.args.footprint.now in
     let one : Standing = record { request = f.request; last_tick = c.last_tick.result } in
     let new = subst (λ j. Stands j one) c.requires.one (f.ranged, c.last_tick.ensures.answer) in
-    λ x h. ⊎_elim (s.stand x) (λ (e : one ≡ x). subst (Stands s.junction) e new) (c.push.ensures.stood x h)
+    record { stand = λ x h. ⊎_elim (s.stand x) (λ (e : one ≡ x). subst (Stands s.junction) e new) (c.push.ensures.stood x h) }
 
 pub returns : goal.returns
 returns c =
