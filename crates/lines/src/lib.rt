@@ -1,4 +1,6 @@
 // Messages as lines of text: read, and written.
+#![tactic(auto)]
+
 pub mod faults;
 mod fields_in;
 mod keywords;
