@@ -1,4 +1,6 @@
 // Reads each line of standard input as a message, and prints the message's line or the fault.
+#![tactic(auto)]
+
 ghost use Rattle.std.specs.Prelude.{◌≤◌, length};
 
 use lines::round::read_then_write;
