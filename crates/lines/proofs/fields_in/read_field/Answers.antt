@@ -8,5 +8,5 @@ use Rattle.lines.proofs.fields_in.read_field.Goals as goal
 pub returns-else-takes : goal.returns-else-takes
 returns-else-takes c g =
     let small = takes_small c.args.field g.0 g.1.0 in
-    let same = decimal_injective g.0 c.in-ok-n.n (omega arith) (omega arith) (sym g.1.1 ∙ c.in-ok-n.ensures.answer) in
+    let same = decimal_injective g.0 c.in_ok-n.n (omega arith) (omega arith) (sym g.1.1 ∙ c.in_ok-n.ensures.answer) in
     true≢false (sym (c.takes.ensures.answer.1 (subst (Takes c.args.field) same g.1.0)) ∙ c.if-takes.false)

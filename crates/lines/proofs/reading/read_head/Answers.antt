@@ -4,19 +4,19 @@ use Rattle.lines.specs.Readings.{size}
 use Rattle.lines.proofs.Verdicts.{no_word, opens, wrong_count}
 use Rattle.lines.proofs.reading.read_head.Goals as goal
 
-pub returns-then-not-is-sized : goal.returns-then-not-is-sized
-returns-then-not-is-sized c = size (λ s. true≢false (sym (c.is-sized.ensures.1 s) ∙ c.if-not-is-sized.true)) refl
+pub returns-then-not-is_sized : goal.returns-then-not-is_sized
+returns-then-not-is_sized c = size (λ s. true≢false (sym (c.is_sized.ensures.1 s) ∙ c.if-not-is_sized.true)) refl
 
-pub returns-in-default : goal.returns-in-default
-returns-in-default c =
-    no_word c.args.line.now c.first-len-end.result c.first-len-end.ensures.answer (c.is-sized.ensures.0 c.if-not-is-sized.false) c.in-default.ensures
+pub returns-in_default : goal.returns-in_default
+returns-in_default c =
+    no_word c.args.line.now c.first_len-end.result c.first_len-end.ensures.answer (c.is_sized.ensures.0 c.if-not-is_sized.false) c.in_default.ensures
 
 pub returns-then-found-fields : goal.returns-then-found-fields
 returns-then-found-fields c =
-    wrong_count c.args.line.now c.first-len-end.result c.first-len-end.ensures.answer (c.is-sized.ensures.0 c.if-not-is-sized.false)
-    c.in-Some.kind c.in-Some.ensures _ _ c.count-fields-found.ensures.answer (ap length c.fields.ensures.answer) c.if-found-fields.true
+    wrong_count c.args.line.now c.first_len-end.result c.first_len-end.ensures.answer (c.is_sized.ensures.0 c.if-not-is_sized.false)
+    c.in-Some.kind c.in-Some.ensures _ _ c.count_fields-found.ensures.answer (ap length c.fields.ensures.answer) c.if-found-fields.true
 
 pub returns : goal.returns
 returns c =
-    opens c.args.line.now c.first-len-end.result c.first-len-end.ensures.answer (c.is-sized.ensures.0 c.if-not-is-sized.false)
-    c.in-Some.kind c.in-Some.ensures _ _ c.count-fields-found.ensures.answer (ap length c.fields.ensures.answer) c.if-found-fields.false
+    opens c.args.line.now c.first_len-end.result c.first_len-end.ensures.answer (c.is_sized.ensures.0 c.if-not-is_sized.false)
+    c.in-Some.kind c.in-Some.ensures _ _ c.count_fields-found.ensures.answer (ap length c.fields.ensures.answer) c.if-found-fields.false

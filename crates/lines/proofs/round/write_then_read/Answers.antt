@@ -12,12 +12,12 @@ the_line bs old mem n e is = ap (λ i. take i mem) e ∙ ap (take (length bs)) i
 
 pub unreachable-requires : goal.unreachable-requires
 unreachable-requires c =
-    some_room c.args.message.now.row c.args.message.now.ok c.args.memory.now (omega arith) c.in-default.field-0 c.in-default.ensures.answer
+    some_room c.args.message.now.row c.args.message.now.ok c.args.memory.now (omega arith) c.in_default.field-0 c.in_default.ensures.answer
 
-pub unreachable-requires-in-default-read : goal.unreachable-requires-in-default-read
-unreachable-requires-in-default-read c =
+pub unreachable-requires-in_default-read : goal.unreachable-requires-in_default-read
+unreachable-requires-in_default-read c =
     let w = c.in-Ok.ensures in
-    c.in-default-read.ensures.only (Ok c.args.message.now) (c.front.ensures ∙ the_line (line_of c.args.message.now.row) _ _ _ w.answer.0 w.after)
+    c.in_default-read.ensures.only (Ok c.args.message.now) (c.front.ensures ∙ the_line (line_of c.args.message.now.row) _ _ _ w.answer.0 w.after)
 
 pub returns : goal.returns
 returns c =
