@@ -1,5 +1,5 @@
 -- The gate of a limit on length, and how it counts whom it turns away. Assumes nothing.
-use Rattle.std.specs.Prelude.{ℕ, ◌+◌, ◌-◌, ◌^◌, min, Bool, false, cond, Some, None, Ok, Err, Option, Result, ◌==◌, nat_lt}
+use Rattle.std.specs.Prelude.{◌+◌, ◌-◌, ◌^◌, min, Bool, false, cond, Some, None, Ok, Err, Option, Result, ◌==◌, nat_lt}
 use Rattle.refusal.specs.declared.kinds.Denial.{Denial}
 use Rattle.refusal.specs.declared.kinds.Denial.TheVariants.{Because, Clash}
 use Rattle.refusal.specs.declared.kinds.Reason.{Reason}

@@ -1,5 +1,5 @@
 -- The binary digits of a number. Assumes nothing.
-use Rattle.std.proofs.Common.{◌≡◌, ℕ, zero, suc, ◌+◌, ◌-◌, ◌*◌, ◌/◌, ◌%◌, ◌^◌, ◌<◌, ◌≤◌, min, max, Bool, true, false, cond, not, ◌&&◌, ◌||◌, eqb, ltb, ◌⊎◌, sym, refl, ap, ◌∙◌, subst, inl, inr, ⊎_elim, pow-suc, arith}
+use Rattle.std.proofs.Common.{◌≡◌, ℕ, zero, suc, ◌+◌, ◌-◌, ◌/◌, ◌%◌, ◌^◌, ◌<◌, ◌≤◌, min, max, Bool, true, false, cond, not, ◌&&◌, ◌||◌, eqb, ltb, sym, ap, ◌∙◌, subst, ⊎_elim, pow-suc, arith}
 use native.Mathlib.Nat.{div-eq_of_lt, mul-mod_left}
 use lib.Bits.{bit_or, bit_and, or_step, and_step, or_shr, and_shr}
 use Rattle.std.proofs.lemmas.Nat.{and_le_l, and_mask, pow_pos, pow_below, pow-add, div_below, le-div, shl-shr}

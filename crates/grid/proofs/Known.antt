@@ -1,5 +1,5 @@
 -- What is known of every path. Assumes nothing.
-use Rattle.std.proofs.Common.{◌≡◌, ℕ, ◌+◌, ◌*◌, ◌<◌, ◌≤◌, sym, subst, arith}
+use Rattle.std.proofs.Common.{ℕ, ◌+◌, ◌*◌, ◌<◌, ◌≤◌, arith}
 use Rattle.grid.specs.declared.path.Path.{Path}
 use Rattle.grid.specs.Bodies.{Fits}
 use Rattle.grid.proofs.Fitting.{fits_parts, last_below, lasts_some, lasts_few, step_starts}

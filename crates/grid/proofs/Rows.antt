@@ -1,5 +1,5 @@
 -- The rows of the table are those of the paths. Assumes nothing.
-use Rattle.std.proofs.Common.{◌≡◌, ℕ, zero, suc, ◌+◌, ◌-◌, ◌*◌, ◌<◌, ◌≤◌, Bool, true, false, ◌&&◌, ltb, leb, List, [], ◌∷◌, ◌++◌, length, get_or, sym, refl, ap, ◌∙◌, subst, ap₂, ⊎_elim, arith, lit<}
+use Rattle.std.proofs.Common.{◌≡◌, ℕ, zero, suc, ◌+◌, ◌-◌, ◌*◌, ◌<◌, ◌≤◌, Bool, true, false, ◌&&◌, ltb, leb, List, [], ◌∷◌, ◌++◌, length, get_or, sym, refl, ap, ◌∙◌, subst, ap₂, arith, lit<}
 use lib.Bits.{bit_and}
 use Rattle.std.proofs.lemmas.List.{get_or_append_left, get_or-append-add}
 use Rattle.std.proofs.lemmas.Bool.{and_from, and_parts, both_ways, lt-ltb}
@@ -8,8 +8,7 @@ use Rattle.grid.specs.declared.kinds.Approach.TheVariants.{North, East, South, W
 use Rattle.grid.specs.declared.kinds.Movement.{Movement}
 use Rattle.grid.specs.declared.kinds.Movement.TheVariants.{Left, Through, Right}
 use Rattle.grid.specs.declared.kinds.Body.{Body}
-use Rattle.grid.specs.Some.{some}
-use Rattle.grid.specs.Bodies.{approach_number, lane_rule, fits, Fits}
+use Rattle.grid.specs.Bodies.{approach_number, lane_rule, fits}
 use Rattle.grid.specs.Paths.{last_point_of, point_of_path, point_touches}
 use Rattle.grid.specs.Sets.{bit}
 use Rattle.grid.specs.Steps.{points_touch}

@@ -1,12 +1,12 @@
 -- The tiles of steps are those of the points between them. Assumes nothing.
-use Rattle.std.proofs.Common.{◌≡◌, ℕ, zero, suc, ◌+◌, ◌-◌, ◌*◌, ◌/◌, ◌%◌, ◌<◌, ◌≤◌, min, Bool, true, false, ◌&&◌, ltb, leb, sym, refl, ap, ◌∙◌, subst, ⊎_elim, mul-le-mul_right, mod-lt, suc-mul, div-add-mod', arith}
+use Rattle.std.proofs.Common.{◌≡◌, ℕ, suc, ◌+◌, ◌-◌, ◌*◌, ◌/◌, ◌%◌, ◌<◌, ◌≤◌, min, Bool, true, false, ◌&&◌, ltb, leb, ap, subst, ⊎_elim, mul-le-mul_right, mod-lt, suc-mul, div-add-mod', arith}
 use Rattle.std.proofs.lemmas.Nat.{div_below}
-use Rattle.std.proofs.lemmas.Bool.{and_from, and_left, and_parts, and_right, cases_Bool, cases_lt, le-leb, leb-true, lt-leb, lt-ltb, ltb-true}
+use Rattle.std.proofs.lemmas.Bool.{and_from, and_left, and_parts, and_right, cases_lt, le-leb, leb-true, lt-leb, lt-ltb, ltb-true}
 use Rattle.grid.specs.declared.kinds.Body.{Body}
 use Rattle.grid.specs.Some.{some}
 use Rattle.grid.specs.Bodies.{Fits}
 use Rattle.grid.specs.Paths.{half, inside, last_point_of, point_of_path, point_touches, touches}
-use Rattle.grid.specs.Steps.{duration_of, passes, path_touches, points_touch, step_touches, steps_touch}
+use Rattle.grid.specs.Steps.{duration_of, passes, points_touch, step_touches, steps_touch}
 use Rattle.grid.proofs.Fitting.{last_below, lasts_some}
 use Rattle.grid.proofs.Somes.{same_tests, some_at, some_found, some_never, some_same, some_tests}
 

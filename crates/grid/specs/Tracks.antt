@@ -1,5 +1,5 @@
 -- What a path answers. Assumes nothing.
-use Rattle.std.specs.Prelude.{◌≡◌, ℕ, ◌<◌, ◌≤◌, true, false, Some, None, Option}
+use Rattle.std.specs.Prelude.{◌≡◌, ℕ, ◌<◌, ◌≤◌, false, Some, None, Option}
 use Rattle.grid.specs.declared.junction.Junction.{Junction}
 use Rattle.grid.specs.declared.kinds.Body.{Body}
 use Rattle.grid.specs.declared.kinds.Point.{Point}

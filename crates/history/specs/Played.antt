@@ -1,6 +1,5 @@
 -- A list of run calls that was played. Assumes nothing.
 use Rattle.std.specs.Prelude.{◌≡◌, ℕ, List, Ok, Err, vec_items, Option, Result, MatchOption}
-use Rattle.policy.specs.Views.{View}
 use Rattle.message.specs.declared.row.MessageRow.{MessageRow}
 use Rattle.run.specs.declared.call.Answer.{Answer}
 use Rattle.run.specs.declared.call.Call.{Call}

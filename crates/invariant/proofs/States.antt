@@ -1,5 +1,5 @@
 -- What a state cannot hold or await. Assumes nothing.
-use Rattle.std.proofs.Common.{◌≡◌, ℕ, true, false, ◌⊎◌, ℤ, is_some, Some, None, Option, refl, ap, inl, inr, arith}
+use Rattle.std.proofs.Common.{◌≡◌, ℕ, true, ◌⊎◌, ℤ, is_some, Some, None, Option, refl, ap, inl, inr, arith}
 use Rattle.std.proofs.lemmas.Bool.{both_ways, false≢true}
 use Rattle.vehicle.specs.declared.rows.Claim.{Claim}
 use Rattle.vehicle.specs.declared.rows.State.{State}

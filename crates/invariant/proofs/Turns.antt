@@ -15,7 +15,7 @@ use Rattle.message.specs.declared.row.MessageRow.TheVariants as message
 use Rattle.message.specs.Rows.{vehicle_of}
 use Rattle.vehicle.specs.declared.rows.Claim.{Claim}
 use Rattle.vehicle.specs.declared.rows.State.{State}
-use Rattle.vehicle.specs.declared.rows.State.TheVariants.{Crossing, Done}
+use Rattle.vehicle.specs.declared.rows.State.TheVariants.{Crossing}
 use Rattle.vehicle.specs.declared.rows.VehicleRow.{VehicleRow}
 use Rattle.vehicle.specs.Records.{Good}
 use Rattle.vehicle.specs.Rows.{good_lag}

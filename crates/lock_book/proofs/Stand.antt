@@ -13,7 +13,7 @@ use Rattle.policy.specs.Views.{found, named}
 use Rattle.refusal.specs.declared.kinds.Name.{Name}
 use Rattle.reservation.specs.declared.request.Request.{Request}
 use Rattle.reservation.specs.Requests.{in_range}
-use Rattle.lock_book.specs.Standing.{AllEnd, AllRanged}
+use Rattle.lock_book.specs.Standing.{AllRanged}
 
 -- the same of the requests alone
 pub requests_ranged : (j : Junction) (xs : List Standing) → AllRanged j xs → (x : Request) → Has (requests xs) x → in_range j x ≡ true

@@ -1,5 +1,5 @@
 -- What is done with a new number is what the manager is to do with it. Assumes nothing.
-use Rattle.std.proofs.Common.{◌≡◌, ℕ, Bool, true, false, is_some, Some, None, Option, sym, ap, ◌∙◌, subst}
+use Rattle.std.proofs.Common.{◌≡◌, ℕ, Bool, false, is_some, Some, None, Option, sym, ap, ◌∙◌, subst}
 use Rattle.std.proofs.lemmas.Bool.{false≢true}
 use Rattle.refusal.specs.declared.kinds.Name.{Name}
 use Rattle.message.specs.declared.row.MessageRow.{MessageRow}

@@ -1,9 +1,8 @@
 -- A layer over a policy is a policy. Assumes nothing.
-use Rattle.std.proofs.Common.{◌≡◌, ℕ, true, false, ◌⊎◌, is_some, Some, None, Ok, Err, Option, Result, sym, refl, ap, ◌∙◌, subst, inl, inr, arith}
+use Rattle.std.proofs.Common.{◌≡◌, is_some, Some, None, Option, Result, sym, ap, ◌∙◌, subst, inl, inr}
 use Rattle.std.proofs.lemmas.Bool.{true≢false}
 use Rattle.grid.specs.declared.junction.Junction.{Junction}
 use Rattle.refusal.specs.declared.kinds.Denial.{Denial}
-use Rattle.refusal.specs.declared.kinds.Denial.TheVariants.{Because}
 use Rattle.refusal.specs.declared.kinds.Reason.{Reason}
 use Rattle.reservation.specs.declared.request.Request.{Request}
 use Rattle.reservation.specs.Requests.{name_of}

@@ -1,10 +1,10 @@
 -- The meaning of a policy fixes its answer: no two answers fit one state. Assumes nothing.
-use Rattle.std.proofs.Common.{◌≡◌, ℕ, ◌⊎◌, List, [], ◌∷◌, ◌++◌, Some, None, Ok, Err, Option, Result, sym, refl, ap, ◌∙◌, subst, inl, inr, arith}
+use Rattle.std.proofs.Common.{◌≡◌, List, [], ◌∷◌, ◌++◌, Some, Err, Option, Result, sym, ap, ◌∙◌, subst, inl, inr, arith}
 use Rattle.std.specs.List.{ContainsAt as Has}
 use Rattle.std.proofs.ByRecursion.{has_append_right, has_get_or}
 use Rattle.grid.specs.declared.junction.Junction.{Junction}
 use Rattle.refusal.specs.declared.kinds.Denial.{Denial}
-use Rattle.refusal.specs.declared.kinds.Denial.TheVariants.{Because, Clash}
+use Rattle.refusal.specs.declared.kinds.Denial.TheVariants.{Clash}
 use Rattle.refusal.specs.declared.kinds.Reason.{Reason}
 use Rattle.reservation.specs.declared.request.Request.{Request}
 use Rattle.reservation.specs.Requests.{name_of}

@@ -1,5 +1,5 @@
 -- What a policy answers. Assumes nothing.
-use Rattle.std.specs.Prelude.{◌≡◌, ℕ, ◌+◌, ◌≤◌, Bool, true, false, ◌&&◌, List, ◌∷◌, ◌++◌, length, is_some, Some, None, Ok, Err, Option, Result, ◌≢◌, nat_le, nat_lt}
+use Rattle.std.specs.Prelude.{◌≡◌, ℕ, ◌+◌, ◌≤◌, Bool, true, false, ◌&&◌, List, ◌∷◌, ◌++◌, length, is_some, Some, Ok, Err, Option, Result, ◌≢◌, nat_le, nat_lt}
 use Rattle.std.specs.List.{ContainsAt as Has}
 use Rattle.grid.specs.declared.junction.Junction.{Junction}
 use Rattle.refusal.specs.declared.kinds.Denial.{Denial}

@@ -1,16 +1,11 @@
 -- The number of every refusal. Assumes nothing.
 use Rattle.std.specs.Prelude.{ℕ}
-use Rattle.refusal.specs.declared.kinds.JunctionFault.{JunctionFault}
 use Rattle.refusal.specs.declared.kinds.JunctionFault.TheVariants as making
-use Rattle.refusal.specs.declared.kinds.CallFault.{CallFault}
 use Rattle.refusal.specs.declared.kinds.CallFault.TheVariants as call
 use Rattle.refusal.specs.declared.kinds.Reason.{Reason}
 use Rattle.refusal.specs.declared.kinds.Reason.TheVariants as reason
-use Rattle.refusal.specs.declared.kinds.Denial.{Denial}
 use Rattle.refusal.specs.declared.kinds.Denial.TheVariants as denial
-use Rattle.refusal.specs.declared.kinds.LineFault.{LineFault}
 use Rattle.refusal.specs.declared.kinds.LineFault.TheVariants as line
-use Rattle.refusal.specs.declared.kinds.WriteFault.{WriteFault}
 use Rattle.refusal.specs.declared.kinds.WriteFault.TheVariants as write
 use Rattle.refusal.specs.declared.kinds.Refusal.{Refusal}
 use Rattle.refusal.specs.declared.kinds.Refusal.TheVariants as refusal

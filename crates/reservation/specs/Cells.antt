@@ -1,5 +1,5 @@
 -- The cells of a request, which are tiles at ticks, and how two requests meet. Assumes nothing.
-use Rattle.std.specs.Prelude.{◌≡◌, ℕ, ◌+◌, ◌<◌, ◌≤◌, Bool, true, ◌&&◌, ◌==◌, nat_le}
+use Rattle.std.specs.Prelude.{◌≡◌, ℕ, ◌+◌, ◌≤◌, Bool, true, ◌&&◌, ◌==◌, nat_le}
 use Rattle.grid.specs.declared.junction.Junction.{Junction}
 use Rattle.grid.specs.Paths.{inside}
 use Rattle.grid.specs.Some.{some}

@@ -1,5 +1,5 @@
 -- What is done with a delivered message. Assumes nothing.
-use Rattle.std.specs.Prelude.{◌≡◌, ℕ, ◌-◌, ◌<◌, Bool, true, false, List, [], ◌∷◌, ◌++◌, Some, None, Ok, Err, Option, Result, ◌≢◌, slice_set}
+use Rattle.std.specs.Prelude.{◌≡◌, ℕ, ◌-◌, ◌<◌, Bool, true, List, Some, None, Ok, Err, Option, Result, ◌≢◌, slice_set}
 use Rattle.std.specs.List.{ContainsAt as Has, remove}
 use Rattle.refusal.specs.declared.kinds.Denial.{Denial}
 use Rattle.refusal.specs.declared.kinds.Denial.TheVariants.{Because}

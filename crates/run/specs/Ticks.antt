@@ -1,9 +1,8 @@
 -- What a tick does. Assumes nothing.
-use Rattle.std.specs.Prelude.{◌≡◌, ℕ, ◌+◌, ◌-◌, ◌≤◌, min, max, Bool, true, cond, not, ◌&&◌, List, [], ◌∷◌, ◌++◌, length, take, ℤ, pos, ◌+ℤ◌, ◌≤ℤ◌, is_some, Some, None, Ok, Option}
+use Rattle.std.specs.Prelude.{◌≡◌, ℕ, ◌+◌, ◌-◌, min, max, Bool, true, cond, not, ◌&&◌, List, [], ◌∷◌, ◌++◌, length, take, ℤ, pos, ◌+ℤ◌, ◌≤ℤ◌, is_some, Some, None, Ok, Option}
 use Rattle.std.specs.Option.{option_map}
 use Rattle.grid.specs.declared.junction.Junction.{Junction}
 use Rattle.grid.specs.Steps.{duration_of}
-use Rattle.policy.specs.Views.{View}
 use Rattle.message.specs.declared.row.MessageRow.{MessageRow}
 use Rattle.message.specs.declared.row.MessageRow.TheVariants as message
 use Rattle.vehicle.specs.declared.rows.Claim.{Claim}

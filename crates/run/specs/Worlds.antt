@@ -1,9 +1,7 @@
 -- What a run holds at a moment, whichever its policy. Assumes nothing.
-use Rattle.std.specs.Prelude.{◌≡◌, ℕ, ◌+◌, ◌-◌, ◌<◌, ◌≤◌, Bool, true, cond, ◌&&◌, List, [], ◌∷◌, ◌++◌, length, take, drop, Some, None, Option, Result, ◌==◌, slice_index_or}
-use Rattle.std.specs.List.{ContainsAt as Has}
+use Rattle.std.specs.Prelude.{◌≡◌, ℕ, ◌+◌, ◌-◌, ◌≤◌, Bool, cond, ◌&&◌, List, [], ◌∷◌, ◌++◌, length, take, drop, Some, None, Option, Result, ◌==◌, slice_index_or}
 use Rattle.grid.specs.declared.kinds.Approach.TheVariants.{North}
 use Rattle.grid.specs.declared.kinds.Movement.TheVariants.{Through}
-use Rattle.grid.specs.declared.kinds.Body.{Body}
 use Rattle.grid.specs.Bodies.{lane_number_of}
 use Rattle.refusal.specs.declared.kinds.CallFault.{CallFault}
 use Rattle.refusal.specs.declared.kinds.Denial.{Denial}

@@ -1,4 +1,4 @@
-use Rattle.std.proofs.Common.{◌≡◌, ℕ, ◌+◌, ◌*◌, get_or, ap, ◌∙◌, ap₂, arith}
+use Rattle.std.proofs.Common.{◌+◌, ◌*◌, get_or, ap, ◌∙◌, ap₂, arith}
 use lib.Bits.{bit_and}
 use Rattle.grid.specs.Sets.{bit}
 use Rattle.grid.specs.Tables.{up_table, down_table}

@@ -1,5 +1,4 @@
-use Rattle.std.proofs.Common.{◌≡◌, suc, ◌+◌, ◌-◌, ◌/◌, sym, ap, ◌∙◌, arith}
-use Rattle.grid.specs.Bodies.{Fits}
+use Rattle.std.proofs.Common.{suc, ◌+◌, ◌-◌, ◌/◌, ap, ◌∙◌, arith}
 use Rattle.grid.specs.Paths.{last_point_of, point_touches}
 use Rattle.grid.specs.Some.{some}
 use Rattle.grid.specs.Steps.{duration_of, path_touches}
@@ -32,6 +31,6 @@ invariant_of-result c =
       lasts = c.ticks_for.ensures ∙ ap (λ p. (p + body.length + body.speed - 1) / body.speed) last;
       crosses =
           λ tile. c.points_tiles.ensures tile ∙ some_whole (suc c.last_of-last_point.result) (λ i. point_touches n body i tile)
-              ∙ ap (λ p. some (suc p) (λ i. point_touches n body i tile)) last;
+          ∙ ap (λ p. some (suc p) (λ i. point_touches n body i tile)) last;
       stands = c.row_of-row.ensures;
     }

@@ -1,4 +1,4 @@
-use Rattle.run.specs.Worlds.{conduct, stage}
+use Rattle.run.specs.Worlds.{conduct}
 use Rattle.invariant.proofs.Inv.{Lawful}
 use Rattle.history.proofs.Playing.{plays}
 use Rattle.history.proofs.replay.open_and_make.Goals as goal

@@ -1,4 +1,4 @@
-use Rattle.std.proofs.Common.{◌≡◌, ℕ, ◌+◌, ◌-◌, ◌*◌, ◌<◌, ◌≤◌, min, sym, ap, ◌∙◌, ap₂, mul-le-mul_right, arith}
+use Rattle.std.proofs.Common.{◌≡◌, ◌+◌, ◌-◌, ◌*◌, min, sym, ap, ◌∙◌, ap₂, mul-le-mul_right, arith}
 use Rattle.grid.specs.Steps.{duration_of, points_touch}
 use Rattle.grid.proofs.Digits.{bit_zero}
 use Rattle.grid.proofs.Known.{known}

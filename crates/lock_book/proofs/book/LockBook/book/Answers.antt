@@ -1,6 +1,5 @@
-use Rattle.std.proofs.Common.{◌≡◌, true, [], ◌∷◌, ◌++◌, sym, refl, ap, ◌∙◌, subst}
+use Rattle.std.proofs.Common.{◌≡◌, true, refl, ap, ◌∙◌, subst}
 use Rattle.std.proofs.lemmas.Bool.{cond-true, lt-ltb}
-use Rattle.ledger.specs.declared.standing.Standing.{Standing}
 use Rattle.ledger.specs.Entries.{entries}
 use Rattle.ledger.specs.Standings.{requests}
 use Rattle.ledger.proofs.Requests.{requests-append}
@@ -17,10 +16,10 @@ invariant_of-self c =
       early = b.early;
       ranged =
           each_more (λ s. in_range b.junction s.request ≡ true) (entries b.ledger) _ _ after b.ranged
-              (subst (λ j. in_range j f.request ≡ true) c.requires.one f.ranged);
+          (subst (λ j. in_range j f.request ≡ true) c.requires.one f.ranged);
       ends =
           each_more (λ s. s.last_tick ≡ last_tick_of b.junction s.request) (entries b.ledger) _ _ after b.ends
-              (c.last_tick.ensures.answer ∙ ap (λ j. last_tick_of j f.request) c.requires.one);
+          (c.last_tick.ensures.answer ∙ ap (λ j. last_tick_of j f.request) c.requires.one);
     }
 
 pub returns : goal.returns

@@ -11,7 +11,7 @@ invariant_of-result c = record {
   wide = refl;
   agree =
       agree_filled c.args.vehicle c.marked_after.result
-          (λ tile below. c.marked_after.ensures tile ∙ cond-true (bit (2 ^ 64 - 1) tile) (not (eqb c.args.vehicle 0)) (bit 0 tile) (bit_ones 64 tile below));
+      (λ tile below. c.marked_after.ensures tile ∙ cond-true (bit (2 ^ 64 - 1) tile) (not (eqb c.args.vehicle 0)) (bit 0 tile) (bit_ones 64 tile below));
 }
 
 pub returns : goal.returns

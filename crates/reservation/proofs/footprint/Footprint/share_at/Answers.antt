@@ -1,5 +1,4 @@
 use Rattle.std.proofs.Common.{◌&&◌, sym, ap, ◌∙◌, ap₂}
-use Rattle.grid.specs.Sets.{has_tile}
 use Rattle.grid.proofs.Somes.{some_tests}
 use Rattle.reservation.specs.Cells.{both, has}
 use Rattle.reservation.proofs.Laws.{one_junction}

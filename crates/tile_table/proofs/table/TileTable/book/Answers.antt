@@ -30,7 +30,7 @@ invariant_of-self c =
       ranged = sound.ranged;
       ending =
           each_more (λ x. x.last_tick ≡ last_tick_of s.junction x.request) (entries s.ledger) (entries c.enter.new.ledger) (standing_of f)
-              c.enter.ensures.entries s.ending ends;
+          c.enter.ensures.entries s.ending ends;
       ahead = sound.ahead;
       apart = sound.apart;
       agree = sound.agree;
