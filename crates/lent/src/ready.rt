@@ -1,7 +1,7 @@
 // What every run call but open asks first: whole memories, a policy at the run's moment, and the vehicle or message that
 // it is about.
 ghost use Rattle.std.specs.Prelude.{◌≡◌, ◌≤◌, true, Decides};
-ghost use Rattle.std.specs.List.{AllByRecursion as All};
+ghost use Rattle.std.specs.List.{AllByRecursion};
 ghost use Rattle.message.specs.Rows.{good_row};
 ghost use Rattle.run.specs.Calls.{Agrees, Whole, common, of_message, of_vehicle};
 ghost use Rattle.run.specs.Tables.{Nothing, Ruled};
@@ -17,7 +17,7 @@ use vehicle::rows::VehicleRow;
 
 // Whether each row makes a message.
 fn all_messages(mail: &[MessageRow]) -> bool
-    ensures { Decides result (All (λ m. good_row m ≡ true) mail.now) }
+    ensures { Decides result (AllByRecursion (λ m. good_row m ≡ true) mail.now) }
 {
     for row in mail {
         if !row.is_good() {

@@ -1,6 +1,6 @@
 -- The table of each run call, and what an accepted call does. Assumes nothing.
 use Rattle.std.specs.Prelude.{◌≡◌, ℕ, ◌+◌, ◌-◌, ◌<◌, ◌≤◌, Bool, true, false, ◌⊎◌, List, [], ◌∷◌, ◌++◌, length, take, ℤ, pos, negsuc, ◌+ℤ◌, is_some, IfSome, Some, None, Ok, Err, Option, Result, ◌≢◌, slice_set}
-use Rattle.std.specs.List.{AllByRecursion as All}
+use Rattle.std.specs.List.{AllByRecursion}
 use Rattle.grid.specs.declared.kinds.Body.{Body}
 use Rattle.grid.specs.Bodies.{fits, lane_number_of}
 use Rattle.refusal.specs.declared.kinds.CallFault.{CallFault}
@@ -33,8 +33,8 @@ pub record Whole (r : Run) (vs : List VehicleRow) (ms : List MessageRow) : Type 
   pub mail : length ms ≤ 256
   pub vehicle_count : r.vehicles ≤ length vs
   pub mail_count : r.mail ≤ length ms
-  pub rows : All (Good r.junction) (take r.vehicles vs)
-  pub messages : All (λ m. messages.good_row m ≡ true) (take r.mail ms)
+  pub rows : AllByRecursion (Good r.junction) (take r.vehicles vs)
+  pub messages : AllByRecursion (λ m. messages.good_row m ≡ true) (take r.mail ms)
 
 -- the policy has the run's clock, lanes and buffer
 pub record Agrees (r : Run) (w : View) : Type 0 where

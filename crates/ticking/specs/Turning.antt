@@ -1,6 +1,6 @@
 -- A tick over rows in lent memory. Assumes nothing.
 use Rattle.std.specs.Prelude.{◌≡◌, ℕ, ◌+◌, ◌-◌, ◌<◌, ◌≤◌, Bool, true, cond, List, ◌++◌, length, take, drop, ℤ, Some, None, Option, slice_index_or, slice_set}
-use Rattle.std.specs.List.{AllByRecursion as All}
+use Rattle.std.specs.List.{AllByRecursion}
 use Rattle.grid.specs.declared.junction.Junction.{Junction}
 use Rattle.grid.specs.Bodies.{fits, lane_number_of}
 use Rattle.grid.specs.Steps.{duration_of}
@@ -45,7 +45,7 @@ pub record Posted (ms : List MessageRow) (n : ℕ) (m : MessageRow) (ms' : List 
 
 -- rows that make records, not too many, and no more messages than mail has rows
 pub record Fit (j : Junction) (vs : List VehicleRow) (ms : List MessageRow) (sent : ℕ) : Type 0 where
-  pub rows : All (Good j) vs
+  pub rows : AllByRecursion (Good j) vs
   pub few : length vs ≤ 1024
   pub within : sent ≤ length ms
 

@@ -1,6 +1,6 @@
 // From rows to records: the ranges of a row's numbers.
 ghost use Rattle.std.specs.Prelude.{◌≡◌, ◌≤◌, Decides};
-ghost use Rattle.std.specs.List.{AllByRecursion as All};
+ghost use Rattle.std.specs.List.{AllByRecursion};
 ghost use Rattle.vehicle.specs.Records.{Good, RecordOf};
 ghost use Rattle.vehicle.specs.Rows.{good_claim, good_lag, good_numbers, good_row, good_state};
 
@@ -59,7 +59,7 @@ fn row_is_good(junction: Junction, row: &VehicleRow) -> bool
 }
 
 fn each_is_good(junction: Junction, rows: &[VehicleRow]) -> bool
-    ensures { Decides result (All (Good junction) rows.now) }
+    ensures { Decides result (AllByRecursion (Good junction) rows.now) }
 {
     for row in rows {
         if !row_is_good(junction, row) {
@@ -80,7 +80,7 @@ impl VehicleRow {
 
 // Whether a record can be made of each row.
 pub fn rows_are_good(junction: Junction, rows: &[VehicleRow]) -> bool
-    ensures answer { Decides result (All (Good junction) rows.now) }
+    ensures answer { Decides result (AllByRecursion (Good junction) rows.now) }
 {
     each_is_good(junction, rows)
 }
