@@ -64,7 +64,7 @@ impl Policy for OneAtATime {
 
     ghost advances = { Advances };
 
-    ghost symmetric = { first_of (Prim.search rules, Prim.grind (arith, Self.row.coded.inj)) };
+    ghost symmetric = { Prim.search rules };
 
     // a cell that both have is at a tick of both spans
     ghost covers = { λ j x y e.
@@ -75,21 +75,21 @@ impl Policy for OneAtATime {
 
     ghost few = { λ s. few_requests s.ledger };
 
-    ghost told = { first_of (Prim.search rules, Prim.grind (arith, Self.row.coded.inj)) };
+    ghost told = { Prim.search rules };
 
-    ghost answers = { first_of (Prim.search rules, Prim.grind (arith, Self.row.coded.inj)) };
+    ghost answers = { Prim.search rules };
 
-    ghost records = { first_of (Prim.search rules, Prim.grind (arith, Self.row.coded.inj)) };
+    ghost records = { Prim.search rules };
 
-    ghost finds = { first_of (Prim.search rules, Prim.grind (arith, Self.row.coded.inj)) };
+    ghost finds = { Prim.search rules };
 
-    ghost removes = { first_of (Prim.search rules, Prim.grind (arith, Self.row.coded.inj)) };
+    ghost removes = { Prim.search rules };
 
-    ghost spares = { first_of (Prim.search rules, Prim.grind (arith, Self.row.coded.inj)) };
+    ghost spares = { Prim.search rules };
 
-    ghost passes = { first_of (Prim.search rules, Prim.grind (arith, Self.row.coded.inj)) };
+    ghost passes = { Prim.search rules };
 
-    ghost ends = { first_of (Prim.search rules, Prim.grind (arith, Self.row.coded.inj)) };
+    ghost ends = { Prim.search rules };
 
     fn ask(&mut self, request: &Request) -> Result<(), Denial> {
         match self.judge(request) {

@@ -1,5 +1,5 @@
 // What alters a ledger. Only `new` allocates.
-ghost use Rattle.std.specs.Prelude.{◌≡◌, true, ltb, ◌⊎◌, [], ◌∷◌, ◌++◌, length, IfOk, if◌then◌else◌, None, filter, nat_lt};
+ghost use Rattle.std.specs.Prelude.{◌≡◌, true, ◌⊎◌, [], ◌∷◌, ◌++◌, length, IfOk, if◌then◌else◌, None, filter, nat_lt};
 ghost use Rattle.std.specs.List.{ContainsAt as Has};
 ghost use Rattle.ledger.specs.declared.standing.Standing.{Standing};
 ghost use Rattle.ledger.specs.Entries.{entries};
@@ -28,7 +28,7 @@ impl Ledger {
     // Appends the request; where 64 stand, it alters nothing and answers false.
     pub fn push(&mut self, request: Request, last_tick: u32) -> bool
         ensures answer { result ≡ nat_lt (length (entries self.old)) 64 }
-        ensures after { entries self.new ≡ (if ltb (length (entries self.old)) 64 then (entries self.old ++ record { request = request; last_tick = last_tick } ∷ []) else entries self.old) }
+        ensures after { entries self.new ≡ (if nat_lt (length (entries self.old)) 64 then (entries self.old ++ record { request = request; last_tick = last_tick } ∷ []) else entries self.old) }
         ensures stood { (s : Standing) → Has (entries self.new) s → Has (entries self.old) s ⊎ (record { request = request; last_tick = last_tick } ≡ s) }
     {
         if self.is_full() {

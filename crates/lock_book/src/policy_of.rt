@@ -1,6 +1,6 @@
 // The lock book as a policy.
 ghost use Rattle.std.specs.Prelude.{◌≡◌, ◌<◌, [], ◌∷◌, ◌++◌, length, None};
-ghost use Rattle.std.proofs.Common.{sym, ◌∙◌, rules, arith};
+ghost use Rattle.std.proofs.Common.{sym, ◌∙◌, rules};
 ghost use Rattle.policy.specs.Views.{moved, released};
 ghost use Rattle.rivals.specs.Rivals.{PathClash};
 ghost use Rattle.ledger.specs.Entries.{entries};
@@ -66,21 +66,21 @@ impl Policy for LockBook {
 
     ghost few = { λ s. few_requests s.ledger };
 
-    ghost told = { first_of (Prim.search rules, Prim.grind (arith, Self.row.coded.inj)) };
+    ghost told = { Prim.search rules };
 
-    ghost answers = { first_of (Prim.search rules, Prim.grind (arith, Self.row.coded.inj)) };
+    ghost answers = { Prim.search rules };
 
-    ghost records = { first_of (Prim.search rules, Prim.grind (arith, Self.row.coded.inj)) };
+    ghost records = { Prim.search rules };
 
-    ghost finds = { first_of (Prim.search rules, Prim.grind (arith, Self.row.coded.inj)) };
+    ghost finds = { Prim.search rules };
 
-    ghost removes = { first_of (Prim.search rules, Prim.grind (arith, Self.row.coded.inj)) };
+    ghost removes = { Prim.search rules };
 
-    ghost spares = { first_of (Prim.search rules, Prim.grind (arith, Self.row.coded.inj)) };
+    ghost spares = { Prim.search rules };
 
-    ghost passes = { first_of (Prim.search rules, Prim.grind (arith, Self.row.coded.inj)) };
+    ghost passes = { Prim.search rules };
 
-    ghost ends = { first_of (Prim.search rules, Prim.grind (arith, Self.row.coded.inj)) };
+    ghost ends = { Prim.search rules };
 
     fn ask(&mut self, request: &Request) -> Result<(), Denial> {
         match self.judge(request) {

@@ -2,7 +2,7 @@
 ghost use Rattle.std.specs.Prelude.{None};
 ghost use Rattle.rivals.specs.Rivals.{CellClash};
 ghost use Rattle.tile_table.specs.Tables.{Advances, Asks, Releases, marks_of, view_of};
-ghost use Rattle.std.proofs.Common.{sym, ◌∙◌, rules, arith};
+ghost use Rattle.std.proofs.Common.{sym, ◌∙◌, rules};
 ghost use Rattle.reservation.proofs.Laws.{share_symmetric};
 ghost use Rattle.ledger.proofs.Bounds.{few_requests};
 
@@ -29,25 +29,25 @@ impl Policy for TileTable {
 
     ghost symmetric = { λ j x y e. sym (share_symmetric j x y) ∙ e };
 
-    ghost covers = { first_of (Prim.search rules, Prim.grind (arith, Self.row.coded.inj)) };
+    ghost covers = { Prim.search rules };
 
     ghost few = { λ s. few_requests s.ledger };
 
-    ghost told = { first_of (Prim.search rules, Prim.grind (arith, Self.row.coded.inj)) };
+    ghost told = { Prim.search rules };
 
-    ghost answers = { first_of (Prim.search rules, Prim.grind (arith, Self.row.coded.inj)) };
+    ghost answers = { Prim.search rules };
 
-    ghost records = { first_of (Prim.search rules, Prim.grind (arith, Self.row.coded.inj)) };
+    ghost records = { Prim.search rules };
 
-    ghost finds = { first_of (Prim.search rules, Prim.grind (arith, Self.row.coded.inj)) };
+    ghost finds = { Prim.search rules };
 
-    ghost removes = { first_of (Prim.search rules, Prim.grind (arith, Self.row.coded.inj)) };
+    ghost removes = { Prim.search rules };
 
-    ghost spares = { first_of (Prim.search rules, Prim.grind (arith, Self.row.coded.inj)) };
+    ghost spares = { Prim.search rules };
 
-    ghost passes = { first_of (Prim.search rules, Prim.grind (arith, Self.row.coded.inj)) };
+    ghost passes = { Prim.search rules };
 
-    ghost ends = { first_of (Prim.search rules, Prim.grind (arith, Self.row.coded.inj)) };
+    ghost ends = { Prim.search rules };
 
     fn ask(&mut self, request: &Request) -> Result<(), Denial> {
         match self.judge(request) {
