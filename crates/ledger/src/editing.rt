@@ -1,5 +1,5 @@
 // What alters a ledger. Only `new` allocates.
-ghost use Rattle.std.specs.Prelude.{◌≡◌, true, ◌⊎◌, [], ◌∷◌, ◌++◌, length, IfOk, if◌then◌else◌, None, filter, nat_lt};
+ghost use Rattle.std.specs.Prelude.{◌≡◌, true, false, ◌⊎◌, [], ◌∷◌, ◌++◌, length, IfOk, if◌then◌else◌, None, filter, nat_lt};
 ghost use Rattle.std.specs.List.{ContainsAt as Has};
 ghost use Rattle.ledger.specs.declared.standing.Standing.{Standing};
 ghost use Rattle.ledger.specs.Entries.{entries};
@@ -30,6 +30,7 @@ impl Ledger {
         ensures answer { result ≡ nat_lt (length (entries self.old)) 64 }
         ensures after { entries self.new ≡ (if nat_lt (length (entries self.old)) 64 then (entries self.old ++ record { request = request; last_tick = last_tick } ∷ []) else entries self.old) }
         ensures stood { (s : Standing) → Has (entries self.new) s → Has (entries self.old) s ⊎ (record { request = request; last_tick = last_tick } ≡ s) }
+        ensures spared { result ≡ false → self.new ≡ self.old }
     {
         if self.is_full() {
             return false;
