@@ -16,7 +16,7 @@ use Rattle.rivals.specs.Screening.{Screens}
 
 module _ (w : View) (r : Request) where
   -- a request that no row stops
-  pub screens_past : (o : Option Footprint) → Stopped w None r None → FootprintOf w.junction r o → Screens w r (ok_or o (Because Range))
+  pub screens_past : (o : Option Footprint) → Stopped w None r (Ok tt) → FootprintOf w.junction r o → Screens w r (ok_or o (Because Range))
   screens_past (Some f) past of = screened_past w r (λ g a. a ≡ Err (Because g)) (λ a. (g : Footprint) × (a ≡ Ok g) × (g.junction ≡ w.junction) × (g.request ≡ r)) (Ok f) past (f, refl, of.0, of.1)
   screens_past None past of = inl (of, refl)
 
@@ -28,7 +28,7 @@ module _ (w : View) (r : Request) where
   screened_answer clash d (inr (p, inr (q, inr (s, told)))) = let e = told.1 in cc
 
   -- one with a footprint is stopped by no row
-  pub screened_footprint : (f : Footprint) → Screens w r (Ok f) → Stopped w None r None × (f.junction ≡ w.junction) × (f.request ≡ r)
+  pub screened_footprint : (f : Footprint) → Screens w r (Ok f) → Stopped w None r (Ok tt) × (f.junction ≡ w.junction) × (f.request ≡ r)
   screened_footprint f (inl range) = let e = range.1 in cc
   screened_footprint f (inr (p, inl time)) = let e = time.1 in cc
   screened_footprint f (inr (p, inr (q, inl name))) = let e = name.1 in cc
