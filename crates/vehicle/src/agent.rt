@@ -27,12 +27,7 @@ fn change_over(vehicle: u32, held: Claim, awaited: Claim) -> (State, Option<Mess
 }
 
 // The state after the message, and what the vehicle sends.
-fn hear(
-    now: Now,
-    vehicle: u32,
-    state: State,
-    message: MessageRow,
-) -> (State, Option<MessageRow>)
+fn hear(now: Now, vehicle: u32, state: State, message: MessageRow) -> (State, Option<MessageRow>)
     ensures { Hears now.junction now.clock vehicle state message result }
 {
     match (state, message) {
