@@ -4,6 +4,7 @@
 pub mod bodies;
 pub mod junction;
 pub mod kinds;
+pub mod letters;
 mod lookup;
 pub mod making;
 pub mod path;

@@ -4,7 +4,7 @@ ghost use Rattle.grid.specs.Some.{some};
 ghost use Rattle.grid.specs.Sets.{bit, has_tile};
 
 // The tiles whose bits are 1.
-#[derive(Clone, Copy)]
+#[derive(Clone, Copy, Default)]
 pub struct TileSet {
     pub bits: u64,
 }
