@@ -12,8 +12,8 @@ use reservation::request::Request;
 use rivals::rivals::earliest_rival;
 
 impl OneAtATime {
-    // Why the request is refused whoever else stands: its range, its time or its name.
-    fn stop(&self, request: &Request) -> Option<Reason>
+    // Refuses the request whoever else stands: its range, its time or its name.
+    fn stop(&self, request: &Request) -> Result<(), Reason>
         ensures { Stopped (view_of self.now) None request.now result }
     {
         let standing = self.ledger.find(request.name());
@@ -32,7 +32,7 @@ impl OneAtATime {
     pub(crate) fn judge(&self, request: &Request) -> Result<Footprint, Denial>
         ensures { Judges self.now request.now result }
     {
-        if let Some(reason) = self.stop(request) {
+        if let Err(reason) = self.stop(request) {
             return Err(Denial::Because(reason));
         }
         let Some(footprint) = Footprint::of(self.junction, request) else {

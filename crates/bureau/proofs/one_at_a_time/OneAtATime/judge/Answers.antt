@@ -14,14 +14,14 @@ returns-in-Some-rival c =
     let s = c.args.self.now in
     let r = c.args.request.now in
     let n = c.in-Some-rival.rival in
-    let rival = subst (λ q. RivalOf s q (Some n)) c.in-Some-of.ensures.answer.1 c.in-Some-rival.ensures in
+    let rival = subst (λ q. RivalOf s q (Some n)) c.in-Some.ensures.answer.1 c.in-Some-rival.ensures in
     clash_verdict SpanClash (view_of s) r (all_ranged s) c.in_default.ensures n rival
 
 pub returns-then-is_full : goal.returns-then-is_full
 returns-then-is_full c =
     let s = c.args.self.now in
     let r = c.args.request.now in
-    let alone = subst (λ q. RivalOf s q None) c.in-Some-of.ensures.answer.1 c.in_default-rival.ensures in
+    let alone = subst (λ q. RivalOf s q None) c.in-Some.ensures.answer.1 c.in_default-rival.ensures in
     let full = leb-true _ _ (sym c.if-is_full.ensures.full) in
     full_verdict SpanClash (view_of s) r (all_ranged s) c.in_default.ensures alone (omega (arith, length-requests (entries s.ledger)))
 
@@ -29,7 +29,7 @@ pub returns : goal.returns
 returns c =
     let s = c.args.self.now in
     let r = c.args.request.now in
-    let of = c.in-Some-of.ensures.answer in
+    let of = c.in-Some.ensures.answer in
     let alone = subst (λ q. RivalOf s q None) of.1 c.in_default-rival.ensures in
     let room = leb-false _ _ (sym c.if-is_full.ensures.full) in
     (grant_verdict SpanClash (view_of s) r (all_ranged s) c.in_default.ensures alone (omega (arith, length-requests (entries s.ledger))), of.0, of.1, room)
