@@ -1,7 +1,7 @@
 use Rattle.std.proofs.Common.{ap}
 use Rattle.std.proofs.lemmas.Bool.{eqb-true, eq-eqb}
 use Rattle.grid.proofs.Same.{same_junction}
-use Rattle.lent.proofs.ready.are_one.Goals as goal
+use Rattle.lent.proofs.scene.are_one.Goals as goal
 
 pub returns-then-a-b : goal.returns-then-a-b
 returns-then-a-b c = (
