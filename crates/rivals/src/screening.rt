@@ -10,7 +10,7 @@ use refusal::kinds::{Denial, Reason};
 use reservation::footprint::Footprint;
 use reservation::request::Request;
 
-// Refuses the request whoever else stands: for its range, its time or its name.
+// Refuses the request whoever else stands: for its range or its time, or because its name stands.
 fn stop(junction: Junction, clock: u32, ledger: &Ledger, request: &Request) -> Result<(), Reason>
     ensures { Stopped (told junction clock ledger.now) None request.now result }
 {
