@@ -2,7 +2,7 @@
 ghost use Rattle.std.specs.Prelude.{◌≡◌, true};
 ghost use Rattle.grid.specs.Sets.{Exactly};
 ghost use Rattle.grid.specs.Steps.{path_touches};
-ghost use Rattle.reservation.specs.Cells.{is_same_junction, is_span_met};
+ghost use Rattle.reservation.specs.Cells.{is_same_junction, spans_overlap};
 ghost use Rattle.reservation.specs.Meetings.{Locks};
 ghost use Rattle.reservation.specs.Requests.{first_tick_of, last_tick_of};
 
@@ -26,7 +26,7 @@ impl Passage {
     // Whether the two have a tick in common.
     fn overlaps(&self, other: &Passage) -> bool
         requires { is_same_junction self.now.junction other.now.junction ≡ true }
-        ensures { result ≡ is_span_met self.now.junction self.now.request other.now.request }
+        ensures { result ≡ spans_overlap self.now.junction self.now.request other.now.request }
     {
         self.first <= other.last && other.first <= self.last
     }
