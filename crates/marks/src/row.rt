@@ -4,7 +4,7 @@ ghost use Rattle.grid.specs.Sets.{bit, has_tile};
 ghost use Rattle.grid.specs.Some.{some};
 ghost use Rattle.marks.specs.Rows.{Agree, is_other, some_differs};
 
-use super::bits::{lowest, marked_after, turned_off};
+use super::bits::{marked_after, take_lowest};
 use grid::tiles::TileSet;
 
 #[derive(Clone, Copy)]
@@ -22,11 +22,10 @@ fn differs(marks: &[u16; 64], word: u64, vehicle: u16) -> bool
 {
     let mut rest = word;
     while rest != 0 {
-        let tile = lowest(rest);
+        let tile = take_lowest(&mut rest);
         if marks[tile as usize] != vehicle {
             return true;
         }
-        rest = turned_off(rest, tile);
     }
     false
 }
@@ -38,9 +37,8 @@ fn write(marks: &mut [u16; 64], word: u64, vehicle: u16)
 {
     let mut rest = word;
     while rest != 0 {
-        let tile = lowest(rest);
+        let tile = take_lowest(&mut rest);
         marks[tile as usize] = vehicle;
-        rest = turned_off(rest, tile);
     }
 }
 
