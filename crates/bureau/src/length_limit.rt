@@ -124,11 +124,11 @@ impl<P: Policy> Policy for LengthLimit<P> {
 
     fn ask(&mut self, request: &Request) -> Result<(), Denial> {
         match self.below.stops(request, own_gate(self.limit, request)) {
-            Some(reason) => {
+            Err(reason) => {
                 self.limit = after_refusal(self.limit, reason);
                 Err(Denial::Because(reason))
             }
-            None => self.below.ask(request),
+            Ok(()) => self.below.ask(request),
         }
     }
 

@@ -6,3 +6,4 @@ pub mod Sets
 pub mod Steps
 pub mod Tables
 pub mod Tracks
+pub mod Letters

@@ -2,8 +2,10 @@
 #![tactic(auto)]
 
 pub mod bodies;
+mod course;
 pub mod junction;
 pub mod kinds;
+pub mod letters;
 mod lookup;
 pub mod making;
 pub mod path;

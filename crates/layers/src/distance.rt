@@ -103,8 +103,8 @@ impl<P: Policy> Policy for Distance<P> {
     fn ask(&mut self, request: &Request) -> Result<(), Denial> {
         let limits = self.lanes.limits;
         match self.below.stops(request, own_gate(limits, request)) {
-            Some(reason) => Err(Denial::Because(reason)),
-            None => {
+            Err(reason) => Err(Denial::Because(reason)),
+            Ok(()) => {
                 let answer = self.below.ask(request);
                 let limits = after_answer(limits, request, &answer);
                 self.lanes = LaneTable { limits };

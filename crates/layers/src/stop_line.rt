@@ -74,8 +74,8 @@ impl<P: Policy> Policy for StopLine<P> {
 
     fn ask(&mut self, request: &Request) -> Result<(), Denial> {
         match self.below.stops(request, own_gate(request)) {
-            Some(reason) => Err(Denial::Because(reason)),
-            None => self.below.ask(request),
+            Err(reason) => Err(Denial::Because(reason)),
+            Ok(()) => self.below.ask(request),
         }
     }
 

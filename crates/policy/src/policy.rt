@@ -59,8 +59,8 @@ pub trait Policy {
     fn clock(&self) -> u32
         ensures { result ≡ (view self.now).clock };
 
-    // Why a layer with this gate of its own refuses the request before it asks this policy.
-    fn stops(&self, request: &Request, own: Option<Reason>) -> Option<Reason>
+    // Refuses the request as a layer with this gate of its own does before it asks this policy.
+    fn stops(&self, request: &Request, own: Option<Reason>) -> Result<(), Reason>
         ensures { Stopped (view self.now) own request.now result }
     {
         stop_rows(

@@ -1,6 +1,7 @@
 // The rows of an answer that are the same for every policy.
-ghost use Rattle.std.specs.Prelude.{◌≡◌, Some};
+ghost use Rattle.std.specs.Prelude.{◌≡◌, Err};
 ghost use Rattle.policy.specs.Answers.{Screened, is_in_time};
+ghost use Rattle.policy.specs.Layers.{refused_by};
 
 use grid::junction::Junction;
 use grid::path::Path;
@@ -18,7 +19,7 @@ fn in_time(path: &Path, clock: u32, request: &Request) -> bool
     clock + buffer < entry && entry + path.duration as u64 + buffer <= clock + 128
 }
 
-// Why the request is refused before a policy is asked that lies below this gate: for its range, its time, because
+// Refuses the request before a policy is asked that lies below this gate: for its range, its time, because
 // its name stands, or by the gate.
 pub fn stop_rows(
     junction: Junction,
@@ -26,17 +27,17 @@ pub fn stop_rows(
     standing: Option<u32>,
     request: &Request,
     own: Option<Reason>,
-) -> Option<Reason>
-    ensures answer { Screened junction clock standing request.now (λ g o. o ≡ Some g) (λ o. o ≡ own) result }
+) -> Result<(), Reason>
+    ensures answer { Screened junction clock standing request.now (λ g o. o ≡ Err g) (λ o. o ≡ refused_by own) result }
 {
     let Some(path) = request.path(junction) else {
-        return Some(Reason::Range);
+        return Err(Reason::Range);
     };
     if !in_time(&path, clock, request) {
-        return Some(Reason::Time);
+        return Err(Reason::Time);
     }
     if standing.is_some() {
-        return Some(Reason::NameStands);
+        return Err(Reason::NameStands);
     }
-    own
+    own.map_or(Ok(()), Err)
 }

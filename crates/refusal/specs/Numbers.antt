@@ -1,7 +1,8 @@
 -- The number of every refusal. Assumes nothing.
-use Rattle.std.specs.Prelude.{ℕ}
+use Rattle.std.specs.Prelude.{◌≡◌, ℕ, Ok, Err, Result, ◌≢◌}
 use Rattle.refusal.specs.declared.kinds.JunctionFault.TheVariants as making
 use Rattle.refusal.specs.declared.kinds.CallFault.TheVariants as call
+use Rattle.refusal.specs.declared.kinds.NoReason.{NoReason}
 use Rattle.refusal.specs.declared.kinds.Reason.{Reason}
 use Rattle.refusal.specs.declared.kinds.Reason.TheVariants as reason
 use Rattle.refusal.specs.declared.kinds.Denial.TheVariants as denial
@@ -49,3 +50,8 @@ number_of (refusal.Reading line.Keyword) = 41
 number_of (refusal.Reading line.Count) = 42
 number_of (refusal.Reading line.Field) = 43
 number_of (refusal.Writing write.Room) = 44
+
+-- the reason of that number, or that no reason has it
+abbrev pub ReasonOf : ℕ → Result Reason NoReason → Type 0
+ReasonOf n (Ok r) = reason_number r ≡ n
+ReasonOf n (Err e) = (e.0 ≡ n) × ((r : Reason) → reason_number r ≢ n)

@@ -70,8 +70,12 @@ pub enum Reason {
     Time = 39,
 }
 
-// The name of a request: its vehicle, and the number that the vehicle gave it.
+// A number that is no reason's.
 #[derive(Clone, Copy)]
+pub struct NoReason(pub u32);
+
+// The name of a request: its vehicle, and the number that the vehicle gave it.
+#[derive(Clone, Copy, PartialEq, Eq)]
 pub struct Name {
     pub vehicle: u32,
     pub number: u32,

@@ -1,5 +1,5 @@
 -- What a policy without a gate answers, once nothing stops the request. Assumes nothing.
-use Rattle.std.proofs.Common.{◌≡◌, ℕ, ◌<◌, ◌≤◌, true, false, List, [], ◌∷◌, length, Some, None, Ok, Err, Option, sym, refl, ap, subst, inl, inr, arith}
+use Rattle.std.proofs.Common.{◌≡◌, ℕ, ◌<◌, ◌≤◌, true, false, List, [], ◌∷◌, length, Some, None, Ok, Err, Option, Result, sym, refl, ap, subst, inl, inr, arith}
 use Rattle.std.specs.List.{ContainsAt as Has}
 use Rattle.std.proofs.ByRecursion.{has_append_left, has_append_right, has_push}
 use Rattle.std.proofs.lemmas.Bool.{both_ways}
@@ -13,7 +13,7 @@ use Rattle.reservation.specs.Requests.{in_range, name_of}
 use Rattle.ledger.specs.declared.standing.Standing.{Standing}
 use Rattle.ledger.specs.Standings.{requests}
 use Rattle.policy.specs.Answers.{Answer, Bars, Denied, Earliest, Judged, Screened}
-use Rattle.policy.specs.Layers.{Stopped}
+use Rattle.policy.specs.Layers.{Stopped, refused_by}
 use Rattle.policy.specs.Views.{View, found}
 use Rattle.policy.proofs.Layers.{screened_past}
 use Rattle.rivals.specs.Rivals.{Rival, Sought}
@@ -26,7 +26,7 @@ before_has : (P : Request → Type 0) (xs : List Request) (x : Request) (e : Ear
 before_has P xs x e y h = subst (λ ys. Has ys y) (sym e.split) (has_append_left e.before (x ∷ e.after) y h)
 
 module _ (clash : Junction → Request → Request → Type 0) (w : View) (r : Request)
-    (ranged : (x : Request) → Has w.ledger x → in_range w.junction x ≡ true) (past : Stopped w None r None) where
+    (ranged : (x : Request) → Has w.ledger x → in_range w.junction x ≡ true) (past : Stopped w None r (Ok tt)) where
   abbrev bars : Request → Type 0
   bars = Bars clash w None r
 
@@ -77,6 +77,6 @@ sought_same clash j k r q xs ys o ej er ex h =
     (subst (λ s. Sought (Rival clash k s) (requests xs) o) er
     (subst (λ l. Sought (Rival clash l r) (requests xs) o) ej h))
 
-pub stopped_same : (w : View) (own : Option Reason) (r : Request) (standing : Option ℕ) (o : Option Reason) → standing ≡ found (name_of r) w.ledger
-    → Screened w.junction w.clock standing r (λ g p. p ≡ Some g) (λ p. p ≡ own) o → Stopped w own r o
-stopped_same w own r standing o is h = subst (λ s. Screened w.junction w.clock s r (λ g p. p ≡ Some g) (λ p. p ≡ own) o) is h
+pub stopped_same : (w : View) (own : Option Reason) (r : Request) (standing : Option ℕ) (o : Result (Unit {0}) Reason) → standing ≡ found (name_of r) w.ledger
+    → Screened w.junction w.clock standing r (λ g p. p ≡ Err g) (λ p. p ≡ refused_by own) o → Stopped w own r o
+stopped_same w own r standing o is h = subst (λ s. Screened w.junction w.clock s r (λ g p. p ≡ Err g) (λ p. p ≡ refused_by own) o) is h

@@ -1,11 +1,10 @@
 -- How each call keeps what always holds of a tile table. Assumes nothing.
-use Rattle.std.proofs.Common.{◌≡◌, ℕ, ◌+◌, ◌*◌, ◌%◌, ◌<◌, ◌≤◌, Bool, true, false, not, eqb, ltb, leb, List, [], ◌∷◌, ◌++◌, get_or, is_some, Some, None, filter, sym, ap, ◌∙◌, subst, inl, inr, ⊎_elim, arith}
+use Rattle.std.proofs.Common.{◌≡◌, ℕ, ◌+◌, ◌%◌, ◌<◌, ◌≤◌, Bool, true, false, not, eqb, ltb, leb, List, [], ◌∷◌, ◌++◌, None, Ok, filter, sym, ap, ◌∙◌, subst, inl, inr, ⊎_elim, arith}
 use Rattle.std.specs.List.{ContainsAt as Has}
 use Rattle.std.proofs.ByRecursion.{all-has, has_push, has_push_cases, kept_by_passes}
-use Rattle.std.proofs.lemmas.Bool.{and_from, and_parts, cases_Bool, cases_eq, cases_lt, cond-true, cond-false, eq-eqb, eqb-true, leb-false, leb-true, ltb-true, ne_eqb, not-false, not_from_false, true≢false}
+use Rattle.std.proofs.lemmas.Bool.{and_from, and_parts, cases_Bool, cases_eq, cases_lt, cond-true, cond-false, eq-eqb, eqb-true, leb-false, leb-true, ltb-true, ne_eqb, not-false, not_from_false}
 use Rattle.grid.specs.declared.junction.Junction.{Junction}
 use Rattle.refusal.specs.declared.kinds.Name.{Name}
-use Rattle.refusal.specs.declared.kinds.Reason.{Reason}
 use Rattle.reservation.specs.declared.request.Request.{Request}
 use Rattle.reservation.specs.Cells.{has, share}
 use Rattle.reservation.specs.Requests.{in_range, last_tick_of, span_end}
@@ -14,8 +13,10 @@ use Rattle.reservation.proofs.Ranges.{range_parts}
 use Rattle.policy.specs.Answers.{is_in_time}
 use Rattle.policy.specs.Layers.{Stopped}
 use Rattle.policy.specs.Views.{View, lasting, named}
+use Rattle.policy.proofs.Layers.{ok_err}
 use Rattle.marks.specs.declared.marks.Marks.{Marks}
 use Rattle.marks.specs.Marked.{mark}
+use Rattle.marks.proofs.Rings.{mark_around}
 use Rattle.ledger.specs.declared.standing.Standing.{Standing}
 use Rattle.ledger.specs.Entries.{entries}
 use Rattle.ledger.specs.Standings.{requests}
@@ -49,13 +50,10 @@ timely j clock r e =
 pub sound_of : (s : TileTable) → Sound s.junction s.clock (requests (entries s.ledger)) s.marks
 sound_of s = record { ranged = s.ranged; ahead = s.ahead; apart = s.apart; agree = s.agree }
 
-some_none : {g : Reason} → None ≡ Some g → ⊥
-some_none {g} e = true≢false (sym (ap is_some e))
-
 -- a request that nothing stops is in time
-pub in_time : (w : View) (r : Request) → Stopped w None r None → is_in_time w.junction w.clock r ≡ true
-in_time w r (inl range) = absurd (some_none range.1)
-in_time w r (inr (p, inl time)) = absurd (some_none time.1)
+pub in_time : (w : View) (r : Request) → Stopped w None r (Ok tt) → is_in_time w.junction w.clock r ≡ true
+in_time w r (inl range) = absurd (ok_err range.1)
+in_time w r (inr (p, inl time)) = absurd (ok_err time.1)
 in_time w r (inr (p, inr (q, rest))) = ⊎_elim
     (λ (e : is_in_time w.junction w.clock r ≡ true). e)
     (λ (e : is_in_time w.junction w.clock r ≡ false). absurd (q e))
@@ -199,7 +197,7 @@ module _ (j : Junction) (clock : ℕ) (rs : List Request) (m : Marks) (sound : S
             let same : t % 128 ≡ clock % 128 = omega (arith, w.2) in
             let none : (r : Request) → Has rs r → has j r tile t ≡ false =
             λ r inside. let reach = sound.ahead r inside in after_last j r tile t (omega arith) in
-            ap (λ k. get_or new.cells (64 * k + tile) 0) same ∙ here tile w.0
+            mark_around new tile t clock same ∙ here tile w.0
             ∙ sym (given_none j tile t (filter p rs) (λ r inside. none r (has_kept_by p rs r inside))))
             (cases_lt t (clock + 128));
       }

@@ -39,7 +39,7 @@ impl TileTable {
         ensures { Judges self.now request.now result }
     {
         let standing = self.ledger.find(request.name());
-        if let Some(reason) = stop_rows(self.junction, self.clock, standing, request, None) {
+        if let Err(reason) = stop_rows(self.junction, self.clock, standing, request, None) {
             return Err(Denial::Because(reason));
         }
         let Some(footprint) = Footprint::of(self.junction, request) else {

@@ -4,11 +4,11 @@
 mod list;
 
 use anyhow::anyhow;
+use book::book::LockBook;
 use grid::junction::Junction;
 use grid::kinds::{Approach, Body, Movement};
 use grid::path::Path;
 use layers::stop_line::StopLine;
-use lock_book::book::LockBook;
 use policy::policy::Policy;
 use refusal::kinds::{Denial, Refusal};
 use reservation::entries::check_entry;
