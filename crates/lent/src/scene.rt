@@ -7,7 +7,6 @@ ghost use Rattle.run.specs.Calls.{Agrees, Whole, common, of_message, of_vehicle}
 ghost use Rattle.run.specs.Tables.{Nothing, Ruled};
 ghost use Rattle.lent.specs.Scenes.{MessageAt, VehicleAt, seen};
 
-use grid::junction::Junction;
 use message::message::Message;
 use message::row::MessageRow;
 use policy::policy::Policy;
@@ -26,13 +25,6 @@ pub struct Scene<'a, P> {
     pub mail: &'a [MessageRow],
 }
 
-// Whether the two have as many lanes and the same buffer.
-fn are_one(a: Junction, b: Junction) -> bool
-    ensures { Decides result (a ≡ b) }
-{
-    a.lanes == b.lanes && a.buffer == b.buffer
-}
-
 impl<P: Policy> Scene<'_, P> {
     fn is_whole(&self) -> bool
         ensures { Decides result (Whole self.now.run.now self.now.vehicles.now self.now.mail.now) }
@@ -48,10 +40,11 @@ impl<P: Policy> Scene<'_, P> {
             && self.mail[..run.mail].iter().all(|row| row.is_good())
     }
 
+    #[tactic(auto, using(crate::proofs::Junctions::one_junction))]
     fn agrees(&self) -> bool
         ensures { Decides result (Agrees self.now.run.now (P.view self.now.policy.now)) }
     {
-        are_one(self.run.junction, self.policy.junction()) && self.run.clock == self.policy.clock()
+        self.run.junction == self.policy.junction() && self.run.clock == self.policy.clock()
     }
 
     // Whether a call may begin, or which of these rows refuses it.
