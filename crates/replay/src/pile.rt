@@ -77,15 +77,15 @@ impl Pile {
             Kind::DistanceTiles => {
                 Pile::DistanceTiles(Distance::over(TileTable::new(heap, junction)?))
             }
-            Kind::StopLocks => Pile::StopLocks(StopLine {
-                below: LockBook::new(heap, junction)?,
-            }),
-            Kind::StopDistanceTiles => Pile::StopDistanceTiles(StopLine {
-                below: Distance::over(TileTable::new(heap, junction)?),
-            }),
-            Kind::DistanceStopLocks => Pile::DistanceStopLocks(Distance::over(StopLine {
-                below: LockBook::new(heap, junction)?,
-            })),
+            Kind::StopLocks => Pile::StopLocks(StopLine::over(LockBook::new(heap, junction)?)),
+            Kind::StopDistanceTiles => {
+                let distance = Distance::over(TileTable::new(heap, junction)?);
+                Pile::StopDistanceTiles(StopLine::over(distance))
+            }
+            Kind::DistanceStopLocks => {
+                let stop_line = StopLine::over(LockBook::new(heap, junction)?);
+                Pile::DistanceStopLocks(Distance::over(stop_line))
+            }
         })
     }
 
@@ -150,9 +150,9 @@ impl Pile {
     // The limits of the Distance layer, if there is one.
     pub(crate) fn limits(&self) -> Option<[u32; 8]> {
         match self {
-            Pile::DistanceTiles(layer) => Some(layer.lanes.limits),
-            Pile::StopDistanceTiles(layer) => Some(layer.below.lanes.limits),
-            Pile::DistanceStopLocks(layer) => Some(layer.lanes.limits),
+            Pile::DistanceTiles(layer) => Some(layer.own.limits),
+            Pile::StopDistanceTiles(layer) => Some(layer.below.own.limits),
+            Pile::DistanceStopLocks(layer) => Some(layer.own.limits),
             Pile::Tiles(_) | Pile::Locks(_) | Pile::StopLocks(_) => None,
         }
     }

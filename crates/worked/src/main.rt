@@ -159,8 +159,7 @@ fn stop_line(
     junction: Junction,
     distance: u32,
 ) -> anyhow::Result<()> {
-    let below = LockBook::new(heap, junction)?;
-    let mut layer = StopLine { below };
+    let mut layer = StopLine::over(LockBook::new(heap, junction)?);
     let body = car(Approach::South, Movement::Through);
     let asked = format!(in heap; "Stop line is asked from {distance} units away")?;
     say(
