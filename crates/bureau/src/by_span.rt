@@ -3,16 +3,11 @@ ghost use Rattle.std.specs.Prelude.{◌≡◌, Decides, true};
 ghost use Rattle.reservation.specs.Cells.{is_same_junction};
 ghost use Rattle.reservation.specs.Requests.{first_tick_of};
 ghost use Rattle.bureau.specs.Spans.{SpanClash};
+ghost use Rattle.std.proofs.Common.{arith, rules};
+ghost use Rattle.reservation.proofs.Laws.{has_within, share_found};
 
-use grid::junction::Junction;
 use reservation::footprint::Footprint;
 use rivals::clashes::Clashes;
-
-fn same_junction(one: Junction, other: Junction) -> bool
-    ensures { result ≡ is_same_junction one other }
-{
-    one.lanes == other.lanes && one.buffer == other.buffer
-}
 
 // The first tick of the span.
 fn first_tick(footprint: &Footprint) -> u32
@@ -38,8 +33,17 @@ pub struct BySpan;
 impl Clashes for BySpan {
     ghost clash = { SpanClash };
 
+    ghost symmetric = { Prim.search rules };
+
+    // a cell that both have is at a tick of both spans
+    ghost covers = { λ j x y e.
+        let (tile, t, one, other) = share_found j x y e in
+        let first = has_within j x tile t one in
+        let second = has_within j y tile t other in
+        (omega arith, omega arith) };
+
     fn clashes(one: &Footprint, other: &Footprint) -> Option<bool> {
-        if !same_junction(one.junction, other.junction) {
+        if one.junction != other.junction {
             return None;
         }
         Some(spans_overlap(one, other))

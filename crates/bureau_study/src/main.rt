@@ -2,7 +2,7 @@
 // the bureau's own policy and to the tile table, each below the bureau's limit on length.
 #![tactic(auto)]
 
-use anyhow::anyhow;
+use anyhow::Context;
 use bureau::length_limit::Limit;
 use bureau::one_at_a_time::OneAtATime;
 use grid::junction::Junction;
@@ -69,9 +69,9 @@ fn study<P: Policy + Drop>(rt: &impl Print, kind: &str, below: P) -> anyhow::Res
 }
 
 fn run(rt: &impl Print, heap: Global) -> anyhow::Result<()> {
-    let Ok(junction) = Junction::new(1, 1) else {
-        return Err(anyhow!("there is no such junction"));
-    };
+    let junction = Junction::new(1, 1)
+        .ok()
+        .context("there is no such junction")?;
     study(rt, "one at a time", OneAtATime::new(heap, junction)?)?;
     study(rt, "tile table", TileTable::new(heap, junction)?)
 }

@@ -115,3 +115,7 @@ meets a b fits = same_tests (not (eqb (bit_and a b) 0)) (some 64 (λ k. bit a k 
     (λ e.
     let w = some_found 64 (λ k. bit a k && bit b k) e in
     not_from_false _ (ne_eqb (bit_and a b) 0 (meet_above a b w.0 w.2)))
+
+-- a word of 64 bits has none beyond
+pub no_bit : (w k : ℕ) → w < 2 ^ 64 → 64 ≤ k → ltb k 64 ≡ bit w k
+no_bit w k fits beyond = le-ltb _ _ beyond ∙ sym (bit_beyond w 64 k fits beyond)

@@ -16,24 +16,16 @@ fn lane_suits(lanes: u32, lane: u32, movement: Movement) -> bool
     }
 }
 
-// Whether the body's numbers are in their ranges, and its lane suits its movement.
-fn fits_lanes(body: &Body, lanes: u32) -> bool
-    ensures { result ≡ fits lanes body.now }
-{
-    body.lane < lanes
-        && lane_suits(lanes, body.lane, body.movement)
-        && body.length >= 4
-        && body.length <= 32
-        && body.speed >= 2
-        && body.speed <= 8
-}
-
 impl Body {
+    #[tactic(auto, using(std::proofs::lemmas::Bool::Decides::nat_tests), unfolding(crate::specs::Bodies::fits))]
     // Whether the body fits the junction: its numbers are in their ranges, and its lane suits its movement.
     pub fn fits(&self, junction: Junction) -> bool
         ensures answer { result ≡ fits junction.lanes self.now }
     {
-        fits_lanes(self, junction.lanes)
+        self.lane < junction.lanes
+            && lane_suits(junction.lanes, self.lane, self.movement)
+            && (4..=32).contains(&self.length)
+            && (2..=8).contains(&self.speed)
     }
 
     // The number of the body's lane among all lanes of the junction.

@@ -2,6 +2,7 @@
 #![tactic(auto)]
 
 pub mod bodies;
+mod course;
 pub mod junction;
 pub mod kinds;
 pub mod letters;

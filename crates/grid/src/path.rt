@@ -6,6 +6,7 @@ ghost use Rattle.grid.specs.Sets.{Exactly};
 ghost use Rattle.grid.specs.Steps.{duration_of, path_touches};
 ghost use Rattle.grid.specs.Tables.{row_of};
 
+use super::course::Course;
 use super::junction::Junction;
 use super::kinds::Body;
 use super::tiles::TileSet;
@@ -27,4 +28,17 @@ pub struct Path {
     ghost lasts: { duration ≡ duration_of junction.lanes body },
     ghost crosses: { Exactly tiles (path_touches junction.lanes body) },
     ghost stands: { row ≡ row_of junction.lanes body },
+}
+
+impl Path {
+    pub(crate) fn course(&self) -> Course
+        ensures junction { result.junction ≡ self.now.junction }
+        ensures body { result.body ≡ self.now.body }
+    {
+        Course {
+            junction: self.junction,
+            body: self.body,
+            row: self.row,
+        }
+    }
 }

@@ -3,6 +3,7 @@ ghost use Rattle.std.specs.Prelude.{◌≡◌, ◌+◌, ◌≤◌};
 ghost use Rattle.grid.specs.Paths.{point_from_south, last_of, last_point_of, point_of_path, side, turn, turned};
 ghost use Rattle.grid.specs.Tracks.{PointOf};
 
+use super::junction::Junction;
 use super::kinds::{Approach, Body, Movement, Point};
 use super::path::Path;
 
@@ -10,11 +11,11 @@ use super::path::Path;
 const RIM: u32 = 4;
 
 // The number of a path's last point.
-pub(crate) fn last_of(lanes: u32, movement: Movement) -> u32
-    requires { lanes ≤ 2 }
-    ensures value { result ≡ last_of lanes movement }
+pub(crate) fn last_of(junction: Junction, movement: Movement) -> u32
+    ensures value { result ≡ last_of junction.lanes movement }
     ensures bound { result ≤ 46 }
 {
+    let lanes = junction.lanes;
     match movement {
         Movement::Left => 16 * lanes + 14,
         Movement::Through => 16 * lanes + 6,
@@ -22,20 +23,26 @@ pub(crate) fn last_of(lanes: u32, movement: Movement) -> u32
     }
 }
 
+// A point at most a tile outside the square of its junction.
+#[derive(Clone, Copy)]
+struct Spot {
+    junction: Junction,
+    point: Point,
+    ghost x: { point.x ≤ side junction.lanes + 8 },
+    ghost y: { point.y ≤ side junction.lanes + 8 },
+}
+
 // Point `i` of the path from the south in lane `lane`.
-fn from_south(lanes: u32, lane: u32, movement: Movement, i: u32) -> Point
-    requires some { 1 ≤ lanes }
-    requires few { lanes ≤ 2 }
-    requires lane { lane + 1 ≤ lanes }
-    requires within { i ≤ last_of lanes movement }
-    ensures value { result ≡ point_from_south lanes lane movement i }
-    ensures x { result.x ≤ side lanes + 7 }
-    ensures y { result.y ≤ side lanes + 7 }
+fn from_south(junction: Junction, lane: u32, movement: Movement, i: u32) -> Spot
+    requires lane { lane + 1 ≤ junction.lanes }
+    requires within { i ≤ last_of junction.lanes movement }
+    ensures junction { result.junction ≡ junction }
+    ensures point { result.point ≡ point_from_south junction.lanes lane movement i }
 {
-    let side = 16 * lanes;
-    let middle = 8 * lanes;
+    let side = 16 * junction.lanes;
+    let middle = 8 * junction.lanes;
     let x = RIM + middle + 4;
-    match movement {
+    let point = match movement {
         Movement::Through => Point {
             x: x + 8 * lane,
             y: RIM + side + 3 - i,
@@ -66,52 +73,52 @@ fn from_south(lanes: u32, lane: u32, movement: Movement, i: u32) -> Point
                 }
             }
         }
-    }
+    };
+    Spot { junction, point }
 }
 
-// A quarter turn about the middle of the square.
-fn quarter_turn(lanes: u32, p: Point) -> Point
-    requires few { lanes ≤ 2 }
-    requires x { p.x ≤ side lanes + 8 }
-    requires y { p.y ≤ side lanes + 8 }
-    ensures value { result ≡ turn lanes p }
-    ensures x { result.x ≤ side lanes + 8 }
-    ensures y { result.y ≤ side lanes + 8 }
-{
-    Point {
-        x: RIM + 16 * lanes + RIM - p.y,
-        y: p.x,
+impl Spot {
+    // A quarter turn about the middle of the square.
+    fn turned(self) -> Spot
+        ensures junction { result.junction ≡ self.junction }
+        ensures point { result.point ≡ turn self.junction.lanes self.point }
+    {
+        let Spot { junction, point } = self;
+        let point = Point {
+            x: RIM + 16 * junction.lanes + RIM - point.y,
+            y: point.x,
+        };
+        Spot { junction, point }
     }
-}
 
-// The point of the path from the south, as it lies for this approach.
-fn turned_to(lanes: u32, approach: Approach, p: Point) -> Point
-    requires few { lanes ≤ 2 }
-    requires x { p.x ≤ side lanes + 8 }
-    requires y { p.y ≤ side lanes + 8 }
-    ensures { result ≡ turned lanes approach p }
-{
-    match approach {
-        Approach::South => p,
-        Approach::West => quarter_turn(lanes, p),
-        Approach::North => quarter_turn(lanes, quarter_turn(lanes, p)),
-        Approach::East => quarter_turn(lanes, quarter_turn(lanes, quarter_turn(lanes, p))),
+    // The point of the path from the south, as it lies for this approach.
+    fn seen_from(self, approach: Approach) -> Point
+        ensures { result ≡ turned self.junction.lanes approach self.point }
+    {
+        match approach {
+            Approach::South => self.point,
+            Approach::West => self.turned().point,
+            Approach::North => self.turned().turned().point,
+            Approach::East => self.turned().turned().turned().point,
+        }
     }
-}
-
-// Point `i` of the body's path.
-fn point_at(lanes: u32, body: Body, i: u32) -> Point
-    requires some { 1 ≤ lanes }
-    requires few { lanes ≤ 2 }
-    requires lane { body.lane + 1 ≤ lanes }
-    requires within { i ≤ last_point_of lanes body }
-    ensures { result ≡ point_of_path lanes body i }
-{
-    let p = from_south(lanes, body.lane, body.movement, i);
-    turned_to(lanes, body.approach, p)
 }
 
 impl Path {
+    // Point `i` of the path.
+    fn point_at(&self, i: u32) -> Point
+        requires { i ≤ self.now.last_point }
+        ensures { result ≡ point_of_path self.now.junction.lanes self.now.body i }
+    {
+        let Body {
+            approach,
+            movement,
+            lane,
+            ..
+        } = self.body;
+        from_south(self.junction, lane, movement, i).seen_from(approach)
+    }
+
     // Point `i`, or nothing beyond the last.
     pub fn point(&self, i: u32) -> Option<Point>
         ensures answer { PointOf self.now i result }
@@ -119,6 +126,6 @@ impl Path {
         if i > self.last_point {
             return None;
         }
-        Some(point_at(self.junction.lanes, self.body, i))
+        Some(self.point_at(i))
     }
 }

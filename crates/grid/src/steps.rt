@@ -2,10 +2,9 @@
 ghost use Rattle.std.specs.Prelude.{◌≡◌, ◌+◌, ◌-◌, ◌*◌, ◌<◌, ◌≤◌, min};
 ghost use Rattle.grid.specs.Paths.{point_touches};
 ghost use Rattle.grid.specs.Sets.{Exactly};
-ghost use Rattle.grid.specs.Steps.{step_touches, steps_touch};
+ghost use Rattle.grid.specs.Steps.{points_touch, step_touches, steps_touch};
 ghost use Rattle.grid.specs.Tracks.{PointTiles, StepTiles};
 
-use super::lookup::points_tiles;
 use super::path::Path;
 use super::tiles::TileSet;
 
@@ -28,12 +27,21 @@ fn front_point(step: u32, speed: u32) -> u32
 }
 
 impl Path {
+    // The tiles that the vehicle touches from the points `first` to `last`.
+    fn points_tiles(&self, first: u32, last: u32) -> TileSet
+        requires order { first ≤ last }
+        requires within { last < 48 }
+        ensures { Exactly result (points_touch self.now.junction.lanes self.now.body first last) }
+    {
+        self.course().points_tiles(first, last)
+    }
+
     // The tiles that the vehicle touches from a point of the path.
     fn tiles_from(&self, i: u32) -> TileSet
         requires { i ≤ self.now.last_point }
         ensures { Exactly result (point_touches self.now.junction.lanes self.now.body i) }
     {
-        points_tiles(self.junction, self.body, self.row, i, i)
+        self.points_tiles(i, i)
     }
 
     // The tiles that it touches in the steps `first` to `last`, of which there are those up to `top`.
@@ -42,12 +50,12 @@ impl Path {
         ensures { Exactly result (steps_touch self.now.junction.lanes self.now.body first last) }
     {
         if first > top {
-            return TileSet { bits: 0 };
+            return TileSet::default();
         }
         let speed = self.body.speed;
         let from = rear_point(first, speed, self.body.length);
         let to = front_point(top, speed);
-        points_tiles(self.junction, self.body, self.row, from, to)
+        self.points_tiles(from, to)
     }
 
     // The tiles that it touches in a step.

@@ -3,21 +3,11 @@ ghost use Rattle.std.specs.Prelude.{◌≡◌, ◌+◌, ◌-◌, ◌/◌, ◌≤
 ghost use Rattle.grid.specs.Bodies.{fits};
 ghost use Rattle.grid.specs.Tracks.{PathOf};
 
+use super::course::Course;
 use super::junction::Junction;
 use super::kinds::Body;
-use super::lookup::{points_tiles, row_of};
 use super::path::Path;
 use super::points::last_of;
-
-// How many ticks a vehicle takes for a distance at a speed, rounded up.
-fn ticks_for(distance: u32, speed: u32) -> u32
-    requires far { distance ≤ 100 }
-    requires moving { 1 ≤ speed }
-    requires slow { speed ≤ 8 }
-    ensures { result ≡ (distance + speed - 1) / speed }
-{
-    (distance + speed - 1) / speed
-}
 
 // The path of a body that fits.
 fn work_out(junction: Junction, body: Body) -> Path
@@ -25,15 +15,15 @@ fn work_out(junction: Junction, body: Body) -> Path
     ensures junction { result.junction ≡ junction }
     ensures body { result.body ≡ body }
 {
-    let last_point = last_of(junction.lanes, body.movement);
-    let row = row_of(junction.lanes, body);
+    let last_point = last_of(junction, body.movement);
+    let course = Course::new(junction, body);
     Path {
         junction,
         body,
         last_point,
-        duration: ticks_for(last_point + body.length, body.speed),
-        tiles: points_tiles(junction, body, row, 0, last_point),
-        row,
+        duration: (last_point + body.length).div_ceil(body.speed),
+        tiles: course.points_tiles(0, last_point),
+        row: course.row,
     }
 }
 

@@ -2,17 +2,25 @@
 ghost use Rattle.std.specs.Prelude.{◌≡◌, true, Decides};
 ghost use Rattle.grid.specs.declared.junction.Junction.{Junction};
 ghost use Rattle.reservation.specs.declared.request.Request.{Request};
+ghost use Rattle.reservation.specs.Cells.{share};
 ghost use Rattle.reservation.specs.Meetings.{OfOne};
 ghost use Rattle.rivals.specs.Rivals.{CellClash, PathClash};
+ghost use Rattle.std.proofs.Common.{sym, ◌∙◌, rules};
+ghost use Rattle.reservation.proofs.Laws.{locks_symmetric, share_locks, share_symmetric};
 
 use reservation::footprint::Footprint;
 
+// A way to clash, and its two laws: who is named first does not matter, and requests that share a cell clash.
 pub trait Clashes {
     ghost clash: { Junction → Request → Request → Type 0 };
 
     // Whether the two clash; nothing where they are not of one junction.
     fn clashes(one: &Footprint, other: &Footprint) -> Option<bool>
         ensures { OfOne one.now.junction other.now.junction (λ b. Decides b (clash one.now.junction one.now.request other.now.request)) result };
+
+    ghost symmetric: { (j : Junction) (x y : Request) → clash j x y → clash j y x };
+
+    ghost covers: { (j : Junction) (x y : Request) → share j x y ≡ true → clash j x y };
 }
 
 // They clash where they share a cell.
@@ -24,6 +32,10 @@ pub struct ByPath;
 impl Clashes for ByCell {
     ghost clash = { CellClash };
 
+    ghost symmetric = { λ j x y e. sym (share_symmetric j x y) ∙ e };
+
+    ghost covers = { Prim.search rules };
+
     fn clashes(one: &Footprint, other: &Footprint) -> Option<bool> {
         one.shares_cell(other)
     }
@@ -31,6 +43,10 @@ impl Clashes for ByCell {
 
 impl Clashes for ByPath {
     ghost clash = { PathClash };
+
+    ghost symmetric = { λ j x y e. sym (locks_symmetric j x y) ∙ e };
+
+    ghost covers = { λ j x y e. share_locks j x y e };
 
     fn clashes(one: &Footprint, other: &Footprint) -> Option<bool> {
         one.locks(other)

@@ -3,3 +3,4 @@
 
 pub mod clashes;
 pub mod rivals;
+pub mod screening;

@@ -1,4 +1,5 @@
 use Rattle.std.proofs.Common.{◌≡◌, ◌+◌, ◌-◌, ◌*◌, min, sym, ap, ◌∙◌, ap₂, mul-le-mul_right, arith}
+use Rattle.grid.specs.Sets.{bit}
 use Rattle.grid.specs.Steps.{duration_of, points_touch}
 use Rattle.grid.proofs.Digits.{bit_zero}
 use Rattle.grid.proofs.Known.{known}
@@ -10,7 +11,7 @@ returns-then-first-top c tile =
     let p = c.args.self.now in
     let k = known p in
     let lasts = p.lasts in
-    bit_zero tile ∙ sym (no_steps p.junction.lanes p.body k.lanes k.fit c.args.first c.args.last tile (omega arith))
+    ap (λ w. bit w tile) c.default.ensures ∙ bit_zero tile ∙ sym (no_steps p.junction.lanes p.body k.lanes k.fit c.args.first c.args.last tile (omega arith))
 
 pub rear_point-from-requires : goal.rear_point-from-requires
 rear_point-from-requires c = let k = known c.args.self.now in omega (arith, k.starts c.args.first (omega arith), k.fit.short)
@@ -26,7 +27,7 @@ points_tiles-requires c =
     let k = known p in
     let rising = mul-le-mul_right p.body.speed c.if-first-top.false in
     let begun = k.starts c.args.first (omega arith) in
-    record { fitting = p.fitting; stands = p.stands; order = omega arith; within = omega arith }
+    record { order = omega arith; within = omega arith }
 
 pub returns : goal.returns
 returns c tile =

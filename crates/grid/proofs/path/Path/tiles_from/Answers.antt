@@ -8,7 +8,7 @@ pub points_tiles-requires : goal.points_tiles-requires
 points_tiles-requires c =
     let p = c.args.self.now in
     let k = known p in
-    record { fitting = p.fitting; stands = p.stands; order = omega arith; within = omega arith }
+    record { order = omega arith; within = omega arith }
 
 pub returns : goal.returns
 returns c tile =
