@@ -2,4 +2,4 @@
 #![tactic(auto)]
 
 pub mod mail;
-pub mod ready;
+pub mod scene;

@@ -1,9 +1,10 @@
 // How mail moves in lent memory.
 ghost use Rattle.std.specs.Prelude.{◌≡◌, ◌-◌, ◌<◌, ◌≤◌, ◌++◌, length, take, drop};
 ghost use Rattle.std.specs.List.{remove};
-ghost use Rattle.lent.specs.Moves.{Among, Settled};
+ghost use Rattle.lent.specs.Moves.{Among, Posts, Settled};
 
 use message::row::MessageRow;
+use refusal::kinds::CallFault;
 
 // The later ones of the first `count` rows move up over row i. What the last of them held stays behind them.
 fn close_gap(mail: &mut [MessageRow], i: usize, count: usize)
@@ -11,9 +12,7 @@ fn close_gap(mail: &mut [MessageRow], i: usize, count: usize)
     requires lent { count ≤ length mail.old }
     ensures { mail.new ≡ remove (take count mail.old) i ++ drop (count - 1) mail.old }
 {
-    for k in i + 1..count {
-        mail[k - 1] = mail[k];
-    }
+    mail.copy_within(i + 1..count, i);
 }
 
 // A reply takes the place of the message of that number, from 1; without one the later of the first `count` move up. The
@@ -40,4 +39,15 @@ pub fn settle(
             count - 1
         }
     }
+}
+
+// A message comes in behind the first `count`, if there is room. The answer is how many there are then.
+pub fn post(mail: &mut [MessageRow], count: usize, row: MessageRow) -> Result<usize, CallFault>
+    ensures answer { Posts mail.old count row mail.new result }
+{
+    if count >= mail.len() {
+        return Err(CallFault::MailFull);
+    }
+    mail[count] = row;
+    Ok(count + 1)
 }

@@ -1,4 +1,4 @@
-// What a run tells of its vehicles, its messages, its counts and its clock. Nothing here alters anything.
+// What a run tells of its clock, its counts and its vehicles. Nothing here alters anything.
 #![tactic(auto)]
 
 pub mod moment;

@@ -6,7 +6,7 @@ ghost use Rattle.run.specs.Worlds.{conduct, last_of_lane, place_behind_of, stage
 
 use super::lanes::last_in;
 use grid::kinds::Body;
-use lent::ready::ready;
+use lent::scene::Scene;
 use message::row::MessageRow;
 use policy::policy::Policy;
 use refusal::kinds::CallFault;
@@ -17,10 +17,9 @@ use vehicle::rows::{State, VehicleRow};
 fn is_clear(rows: &[VehicleRow], body: Body, distance: u32) -> bool
     ensures { Decides result (IfSome (last_of_lane (lane_number_of body) rows.now) (λ last. place_behind_of last ≤ distance)) }
 {
-    match last_in(body.lane_number(), rows) {
-        Some(last) => last.distance as u64 + last.body.length as u64 + 2 <= distance as u64,
-        None => true,
-    }
+    last_in(body.lane_number(), rows).is_none_or(|last| {
+        last.distance as u64 + last.body.length as u64 + 2 <= distance as u64
+    })
 }
 
 // A vehicle arrives at this distance from the stop line: its number, from 1.
@@ -34,14 +33,20 @@ pub fn arrive<P: Policy>(
 ) -> Result<u32, CallFault>
     ensures answer { Arrives (conduct P.view P.asks P.releases P.advances) (stage run.old vehicles.old mail.now policy.now) (stage run.new vehicles.new mail.now policy.now) body distance result }
 {
-    ready(run, policy, vehicles, mail)?;
+    let scene = Scene {
+        run,
+        policy,
+        vehicles,
+        mail,
+    };
+    scene.ready()?;
     if !body.fits(run.junction) || distance < 1 || distance > 2000 {
         return Err(CallFault::Arrival);
     }
     if run.vehicles >= vehicles.len() {
         return Err(CallFault::VehiclesFull);
     }
-    if !is_clear(&vehicles[0..run.vehicles], body, distance) {
+    if !is_clear(&vehicles[..run.vehicles], body, distance) {
         return Err(CallFault::TooClose);
     }
     vehicles[run.vehicles] = VehicleRow {
