@@ -66,12 +66,13 @@ module _ {P : Type 0} (view : P → View) (s : Stage P) (h : Whole s.run s.vehic
 
   -- a message is put behind the others
   pub sent : (x y : MessageRow) → y ≡ x → s.run.mail < length s.mail → r.vehicles ≡ s.run.vehicles → r.mail ≡ s.run.mail + 1
-      → Later view s (record { vehicles = (world s).vehicles; mail = (world s).mail ++ x ∷ []; policy = s.policy }) (stage r s.vehicles (set s.mail s.run.mail y) s.policy)
-  sent x y is free v m =
+      → (ms : List MessageRow) → ms ≡ set s.mail s.run.mail y
+      → Later view s (record { vehicles = (world s).vehicles; mail = (world s).mail ++ x ∷ []; policy = s.policy }) (stage r s.vehicles ms s.policy)
+  sent x y is free v m ms put =
       record {
         run = counts (v ∙ sym (vehicles_long s h)) (m ∙ pushed_count (world s).mail x _ (mail_long s h));
         vehicles = kept_part s.vehicles s.run.vehicles h.vehicle_count;
-        mail = ap (set s.mail s.run.mail) is ∙ push_part s.mail s.run.mail x free;
+        mail = put ∙ ap (set s.mail s.run.mail) is ∙ push_part s.mail s.run.mail x free;
         policy = refl;
       }
 
@@ -88,14 +89,14 @@ module _ {P : Type 0} (view : P → View) (s : Stage P) (h : Whole s.run s.vehic
         }
 
     -- and a message is put behind the others
-    pub posted : (m : MessageRow) → s.run.mail < length s.mail → r.vehicles ≡ s.run.vehicles → r.mail ≡ s.run.mail + 1
-        → Later view s (record { vehicles = set (world s).vehicles (v - 1) x; mail = (world s).mail ++ m ∷ []; policy = s.policy })
-        (stage r (set s.vehicles (v - 1) x) (set s.mail s.run.mail m) s.policy)
-    posted y free n m =
+    pub posted : (y : MessageRow) → s.run.mail < length s.mail → r.vehicles ≡ s.run.vehicles → r.mail ≡ s.run.mail + 1
+        → (ms : List MessageRow) → ms ≡ set s.mail s.run.mail y
+        → Later view s (record { vehicles = set (world s).vehicles (v - 1) x; mail = (world s).mail ++ y ∷ []; policy = s.policy }) (stage r (set s.vehicles (v - 1) x) ms s.policy)
+    posted y free n m ms put =
         record {
           run = counts (n ∙ row_count s h v x) (m ∙ pushed_count (world s).mail y _ (mail_long s h));
           vehicles = row_put s h v x lo hi;
-          mail = push_part s.mail s.run.mail y free;
+          mail = put ∙ push_part s.mail s.run.mail y free;
           policy = refl;
         }
 
