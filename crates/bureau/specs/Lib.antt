@@ -1,4 +1,2 @@
 pub mod Spans
-pub mod Standing
-pub mod Calls
 pub mod Limits

@@ -6,15 +6,8 @@ ghost use Rattle.bureau.specs.Spans.{SpanClash};
 ghost use Rattle.std.proofs.Common.{arith, rules};
 ghost use Rattle.reservation.proofs.Laws.{has_within, share_found};
 
-use grid::junction::Junction;
 use reservation::footprint::Footprint;
 use rivals::clashes::Clashes;
-
-fn same_junction(one: Junction, other: Junction) -> bool
-    ensures { result ≡ is_same_junction one other }
-{
-    one.lanes == other.lanes && one.buffer == other.buffer
-}
 
 // The first tick of the span.
 fn first_tick(footprint: &Footprint) -> u32
@@ -50,7 +43,7 @@ impl Clashes for BySpan {
         (omega arith, omega arith) };
 
     fn clashes(one: &Footprint, other: &Footprint) -> Option<bool> {
-        if !same_junction(one.junction, other.junction) {
+        if one.junction != other.junction {
             return None;
         }
         Some(spans_overlap(one, other))

@@ -2,8 +2,5 @@
 #![tactic(auto)]
 
 pub mod by_span;
-mod judging;
 pub mod length_limit;
-pub mod making;
 pub mod one_at_a_time;
-pub mod policy_of;

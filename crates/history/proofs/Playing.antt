@@ -1,21 +1,19 @@
 -- Lists of calls, made one after the other. Assumes nothing.
-use Rattle.std.proofs.Common.{◌≡◌, ℕ, ◌+◌, ◌<◌, ◌≤◌, List, [], ◌∷◌, ◌++◌, length, get_or, take, Some, None, Ok, vec_items, Option, sym, refl, subst}
+use Rattle.std.proofs.Common.{ℕ, ◌+◌, ◌<◌, ◌≤◌, List, [], ◌∷◌, ◌++◌, length, get_or, take, Ok, Option, sym, subst}
 use Rattle.std.proofs.lemmas.List.{take_all, take_more}
 use Rattle.grid.specs.declared.junction.Junction.{Junction}
 use Rattle.reservation.specs.declared.request.Request.{Request}
 use Rattle.policy.specs.Views.{Told}
 use Rattle.message.specs.declared.row.MessageRow.{MessageRow}
 use Rattle.vehicle.specs.declared.rows.VehicleRow.{VehicleRow}
-use Rattle.run.specs.declared.call.Answer.{Answer}
 use Rattle.run.specs.declared.call.Call.{Call}
 use Rattle.run.specs.declared.run.Run.{Run}
-use Rattle.run.specs.Calls.{Makes, Opens}
+use Rattle.run.specs.Calls.{Answer, Makes, Opens}
 use Rattle.run.specs.Worlds.{Conduct, Stage, stage}
 use Rattle.invariant.specs.Promises.{Ran, Reached, Sound, none, next}
 use Rattle.invariant.proofs.Inv.{Lawful}
 use Rattle.invariant.proofs.Whole.{opened_safe, ran_safe, sound}
-use Rattle.history.specs.declared.played.Played.{Played}
-use Rattle.history.specs.Played.{GoesOn, Plays}
+use Rattle.history.specs.Played.{StaysSound}
 
 module _ {P : Type 0} (c : Conduct P) where
   -- one call more
@@ -44,11 +42,10 @@ module _ {P : Type 0} (c : Conduct P) (s : Stage P) (calls : List Call) where
   pub playing_none : Playing c s calls 0 [] s
   playing_none = record { ran = none s }
 
-  pub playing_more : (i : ℕ) (answers after : List Answer) (t u : Stage P) (d : Call) (a : Answer) → i < length calls
-      → Playing c s calls i answers t → Makes c t (get_or calls i d) a u → after ≡ answers ++ a ∷ [] → Playing c s calls (i + 1) after u
-  playing_more i answers after t u d a lt p made is = record {
-    ran = subst (λ xs. Ran c s xs after u) (sym (take_more calls i d lt))
-        (subst (λ given. Ran c s (take i calls ++ get_or calls i d ∷ []) given u) (sym is) (ran_more c s t u (take i calls) answers (get_or calls i d) a p.ran made));
+  pub playing_more : (i : ℕ) (given : List Answer) (t u : Stage P) (d : Call) (a : Answer) → i < length calls
+      → Playing c s calls i given t → Makes c t (get_or calls i d) a u → Playing c s calls (i + 1) (given ++ a ∷ []) u
+  playing_more i given t u d a lt p made = record {
+    ran = subst (λ xs. Ran c s xs (given ++ a ∷ []) u) (sym (take_more calls i d lt)) (ran_more c s t u (take i calls) given (get_or calls i d) a p.ran made);
   }
 
   pub playing_all : (i : ℕ) (answers : List Answer) (t : Stage P) → length calls ≤ i → Playing c s calls i answers t → Ran c s calls answers t
@@ -57,46 +54,37 @@ module _ {P : Type 0} (c : Conduct P) (s : Stage P) (calls : List Call) where
 -- what holds after lists of calls, over any policy that shows the laws
 module _ {P : Type 0} (clash : Junction → Request → Request → Type 0) (c : Conduct P) (lawful : Lawful clash c)
     (marks : P → Option (ℕ → ℕ → ℕ)) (told : (p : P) → Told (marks p) (c.view p)) where
-  reached_sound : (s : Stage P) → Reached c s → Sound c.view marks s
+  pub reached_sound : (s : Stage P) → Reached c s → Sound c.view marks s
   reached_sound s r =
       sound clash c lawful marks told s
       (ran_safe clash c lawful _ s r.calls r.answers (opened_safe clash c lawful r.vehicles r.mail r.policy r.run r.opens) r.ran)
 
-  pub goes_on : (s t : Stage P) (calls : List Call) (answers : List Answer) → Ran c s calls answers t → GoesOn c marks s calls t (Some answers)
-  goes_on s t calls answers ran = record {
-    ran = ran;
-    sound = λ r.
-        let on : Reached c t = record {
-          vehicles = r.vehicles;
-          mail = r.mail;
-          policy = r.policy;
-          run = r.run;
-          opens = r.opens;
-          calls = r.calls ++ calls;
-          answers = r.answers ++ answers;
-          ran = ran_joined c _ s t r.calls calls r.answers answers r.ran ran;
-        } in
-        (on, reached_sound t on);
-  }
+  pub stays_sound : (s t : Stage P) (calls : List Call) (answers : List Answer) → Ran c s calls answers t → StaysSound c marks s t
+  stays_sound s t calls answers ran r =
+      let on : Reached c t = record {
+        vehicles = r.vehicles;
+        mail = r.mail;
+        policy = r.policy;
+        run = r.run;
+        opens = r.opens;
+        calls = r.calls ++ calls;
+        answers = r.answers ++ answers;
+        ran = ran_joined c _ s t r.calls calls r.answers answers r.ran ran;
+      } in
+      (on, reached_sound t on)
 
-  pub stays : (s : Stage P) (calls : List Call) → GoesOn c marks s calls s None
-  stays s calls = record { ran = refl; sound = λ r. (r, reached_sound s r) }
-
-  pub plays : (vs vs' : List VehicleRow) (ms ms' : List MessageRow) (p p' : P) (calls : List Call) (first : Run) (played : Played)
-      → Opens vs ms (c.view p) (Ok first) → Ran c (stage first vs ms p) calls (vec_items played.answers) (stage played.run vs' ms' p')
-      → Plays c marks vs ms p calls vs' ms' p' played
-  plays vs vs' ms ms' p p' calls first played opens ran = record {
-    run = first;
-    opens = opens;
-    ran = ran;
-    sound = reached_sound _ (record {
+-- what holds of a run that is gone on with, holds of one that was just opened
+pub opened_sound : {P : Type 0} (c : Conduct P) (marks : P → Option (ℕ → ℕ → ℕ)) (vs : List VehicleRow) (ms : List MessageRow)
+    (p : P) (first : Run) (s : Stage P)
+    → Opens vs ms (c.view p) (Ok first) → StaysSound c marks (stage first vs ms p) s → Sound c.view marks s
+opened_sound c marks vs ms p first s opens stays =
+    (stays (record {
       vehicles = vs;
       mail = ms;
       policy = p;
       run = first;
       opens = opens;
-      calls = calls;
-      answers = vec_items played.answers;
-      ran = ran;
-    });
-  }
+      calls = [];
+      answers = [];
+      ran = none _;
+    })).1

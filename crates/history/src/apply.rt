@@ -1,6 +1,6 @@
 // Any run call, by its name.
 ghost use Rattle.std.specs.Prelude.{◌≡◌};
-ghost use Rattle.run.specs.Calls.{Makes, answer_by_number, plain};
+ghost use Rattle.run.specs.Calls.{Makes};
 ghost use Rattle.run.specs.Worlds.{conduct, stage};
 ghost use Rattle.run.specs.declared.call.Call.TheVariants as call;
 
@@ -11,7 +11,6 @@ use calls::repeating::repeat;
 use calls::time::tick;
 use message::row::MessageRow;
 use policy::policy::Policy;
-use refusal::kinds::CallFault;
 use run::call::{Answer, Call};
 use run::run::Run;
 use vehicle::rows::VehicleRow;
@@ -19,24 +18,6 @@ use vehicle_calls::arriving::arrive;
 use vehicle_calls::asking::ask;
 use vehicle_calls::holding::{cancel, change};
 use vehicle_calls::nudging::nudge;
-
-fn by_number(answer: Result<u32, CallFault>) -> Answer
-    ensures { result ≡ answer_by_number answer }
-{
-    match answer {
-        Ok(number) => Answer::Numbered(number),
-        Err(fault) => Answer::Refused(fault),
-    }
-}
-
-fn plainly(answer: Result<(), CallFault>) -> Answer
-    ensures { result ≡ plain answer }
-{
-    match answer {
-        Ok(()) => Answer::Accepted,
-        Err(fault) => Answer::Refused(fault),
-    }
-}
 
 // Opens a run in the place of this one; where that is refused, this one stays.
 fn open_again<P: Policy>(
@@ -47,13 +28,8 @@ fn open_again<P: Policy>(
 ) -> Answer
     ensures { Makes (conduct P.view P.asks P.releases P.advances) (stage run.old vehicles.now mail.now policy.now) call.Open result (stage run.new vehicles.now mail.now policy.now) }
 {
-    match open(policy, vehicles, mail) {
-        Ok(new) => {
-            *run = new;
-            Answer::Accepted
-        }
-        Err(fault) => Answer::Refused(fault),
-    }
+    *run = open(policy, vehicles, mail)?;
+    Ok(None)
 }
 
 // Makes the call.
@@ -69,17 +45,19 @@ pub fn apply<P: Policy>(
     match *call {
         Call::Open => open_again(run, policy, vehicles, mail),
         Call::Arrive { body, distance } => {
-            by_number(arrive(run, policy, vehicles, mail, body, distance))
+            arrive(run, policy, vehicles, mail, body, distance).map(Some)
         }
-        Call::Ask { vehicle, entry } => by_number(ask(run, policy, vehicles, mail, vehicle, entry)),
+        Call::Ask { vehicle, entry } => ask(run, policy, vehicles, mail, vehicle, entry).map(Some),
         Call::Change { vehicle, entry } => {
-            by_number(change(run, policy, vehicles, mail, vehicle, entry))
+            change(run, policy, vehicles, mail, vehicle, entry).map(Some)
         }
-        Call::Cancel { vehicle } => plainly(cancel(run, policy, vehicles, mail, vehicle)),
-        Call::Nudge { vehicle, by } => plainly(nudge(run, policy, vehicles, mail, vehicle, by)),
-        Call::Deliver { message } => plainly(deliver(run, policy, vehicles, mail, message)),
-        Call::Lose { message } => plainly(lose(run, policy, vehicles, mail, message)),
-        Call::Repeat { message } => plainly(repeat(run, policy, vehicles, mail, message)),
-        Call::Tick => plainly(tick(run, policy, vehicles, mail)),
+        Call::Cancel { vehicle } => cancel(run, policy, vehicles, mail, vehicle).map(|()| None),
+        Call::Nudge { vehicle, by } => nudge(run, policy, vehicles, mail, vehicle, by).map(
+            |()| None,
+        ),
+        Call::Deliver { message } => deliver(run, policy, vehicles, mail, message).map(|()| None),
+        Call::Lose { message } => lose(run, policy, vehicles, mail, message).map(|()| None),
+        Call::Repeat { message } => repeat(run, policy, vehicles, mail, message).map(|()| None),
+        Call::Tick => tick(run, policy, vehicles, mail).map(|()| None),
     }
 }

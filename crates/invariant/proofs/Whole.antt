@@ -18,11 +18,10 @@ use Rattle.vehicle.specs.Rows.{good_lag}
 use Rattle.vehicle.specs.Standing.{OnTile}
 use Rattle.vehicle.proofs.Cells.{on_tile_held}
 use Rattle.vehicle.proofs.Parts.{lag_parts}
-use Rattle.run.specs.declared.call.Answer.{Answer}
 use Rattle.run.specs.declared.call.Call.{Call}
 use Rattle.run.specs.declared.call.Call.TheVariants as call
 use Rattle.run.specs.declared.run.Run.{Run}
-use Rattle.run.specs.Calls.{Agrees, Makes, Opens, Reopens, Whole}
+use Rattle.run.specs.Calls.{Agrees, Answer, Makes, Opens, Reopens, Whole}
 use Rattle.run.specs.Tables.{ByRows, Ruled, Table, end, row}
 use Rattle.run.specs.Worlds.{Conduct, Counts, Later, Stage, World, message_of, no_mail, row_of, stage, world}
 use Rattle.invariant.specs.Promises.{AllReserved, NoCommonTile, Ran, Reserved, Sound, next, none}

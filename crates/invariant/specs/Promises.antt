@@ -9,10 +9,9 @@ use Rattle.vehicle.specs.declared.rows.Claim.{Claim}
 use Rattle.vehicle.specs.declared.rows.VehicleRow.{VehicleRow}
 use Rattle.vehicle.specs.Standing.{OnTile}
 use Rattle.vehicle.specs.States.{held_of}
-use Rattle.run.specs.declared.call.Answer.{Answer}
 use Rattle.run.specs.declared.call.Call.{Call}
 use Rattle.run.specs.declared.run.Run.{Run}
-use Rattle.run.specs.Calls.{Agrees, Makes, Opens}
+use Rattle.run.specs.Calls.{Agrees, Answer, Makes, Opens}
 use Rattle.run.specs.Worlds.{Arrived, Conduct, Stage, row_of, stage, world}
 
 -- the reservation of vehicle v under this claim stands in the ledger, with the body of its record

@@ -1,28 +1,16 @@
 -- The first standing request of a name. Assumes nothing.
-use Rattle.std.proofs.Common.{◌≡◌, ℕ, ◌+◌, ◌<◌, ◌≤◌, true, false, List, [], ◌∷◌, length, get_or, drop, is_some, Some, None, filter, Option, sym, refl, ap, ◌∙◌, subst, ⊎_elim, arith}
+use Rattle.std.proofs.Common.{◌≡◌, ℕ, true, false, not, List, [], ◌∷◌, is_some, Some, None, filter, Option, sym, refl, ap, ◌∙◌, subst, ⊎_elim, arith}
 use Rattle.std.specs.Option.{option_map}
-use Rattle.std.specs.List.{ContainsAt as Has, AllByRecursion as All}
-use Rattle.std.proofs.ByRecursion.{has_append_right, has_get_or}
-use Rattle.std.proofs.lemmas.List.{at_drop_more, at_drop_all}
-use Rattle.std.proofs.lemmas.Bool.{cases_Bool, cond-true, cond-false, not_from_false}
+use Rattle.std.specs.List.{AllByRecursion as All}
+use Rattle.std.proofs.lemmas.Bool.{both_ways, cases_Bool, cond-true, cond-false, not_from_false}
 use Rattle.refusal.specs.declared.kinds.Name.{Name}
 use Rattle.policy.specs.Views.{found, named}
 use Rattle.ledger.specs.declared.standing.Standing.{Standing}
 use Rattle.ledger.specs.Standings.{first_of_name, other, requests}
 use Rattle.ledger.proofs.Kept.{kept_by_all}
+use Rattle.ledger.proofs.Requests.{requests-other}
 
 module _ (n : Name) where
-  -- the turns of a search
-  module _ (xs : List Standing) (i : ℕ) (d : Standing) (below : i < length xs) where
-    pub first_here : named n (get_or xs i d).request ≡ true → first_of_name n (drop i xs) ≡ Some (get_or xs i d)
-    first_here e = at_drop_more (first_of_name n) xs i d below ∙ cond-true _ _ _ e
-
-    pub first_more : named n (get_or xs i d).request ≡ false → first_of_name n (drop i xs) ≡ first_of_name n (drop (i + 1) xs)
-    first_more e = at_drop_more (first_of_name n) xs i d below ∙ cond-false _ _ _ e
-
-  pub first_none : (xs : List Standing) (i : ℕ) → length xs ≤ i → first_of_name n (drop i xs) ≡ None
-  first_none xs i past = at_drop_all (first_of_name n) xs i past
-
   -- by cases on whether the head has the name
   by_head : (x : Standing) (xs : List Standing) (P : Option Standing → Type 0) → (named n x.request ≡ true → P (Some x)) → (named n x.request ≡ false → P (first_of_name n xs))
       → P (first_of_name n (x ∷ xs))
@@ -43,15 +31,6 @@ module _ (n : Name) where
   pub none_named : (xs : List Standing) → first_of_name n xs ≡ None → filter (other n) xs ≡ xs
   none_named xs none = kept_by_all (other n) xs (others xs none)
 
-  -- the first is one of the list, and has the name
-  pub first_named : (xs : List Standing) (s : Standing) → first_of_name n xs ≡ Some s → Has xs s × (named n s.request ≡ true)
-  first_named [] s e = let z : ◌≡◌ {A = ℕ} 0 1 = cc in absurd (omega arith)
-  first_named (x ∷ xs) s is =
-      by_head x xs (λ o. o ≡ Some s → Has (x ∷ xs) s × (named n s.request ≡ true))
-      (λ t e. let same : x ≡ s = cc in subst (λ y. Has (x ∷ xs) y × (named n y.request ≡ true)) same (has_get_or (x ∷ xs) 0 x (omega arith), t))
-      (λ _ e. let tail = first_named xs s e in (has_append_right (x ∷ []) xs s tail.0, tail.1))
-      is
-
   pub found_first : (xs : List Standing) → found n (requests xs) ≡ option_map (λ s. s.request.entry) (first_of_name n xs)
   found_first [] = refl
   found_first (x ∷ xs) =
@@ -63,5 +42,13 @@ module _ (n : Name) where
   some_mapped None = refl
   some_mapped (Some s) = refl
 
+  none_of : (o : Option Standing) → is_some o ≡ false → o ≡ None
+  none_of None e = refl
+  none_of (Some s) e = absurd (both_ways true e refl)
+
   pub first_is_found : (xs : List Standing) → is_some (first_of_name n xs) ≡ is_some (found n (requests xs))
   first_is_found xs = sym (ap is_some (found_first xs) ∙ some_mapped (first_of_name n xs))
+
+  -- where none is found, a release takes none out
+  pub not_found : (xs : List Standing) → is_some (found n (requests xs)) ≡ false → filter (λ r. not (named n r)) (requests xs) ≡ requests xs
+  not_found xs e = sym (requests-other n xs) ∙ ap requests (none_named xs (none_of (first_of_name n xs) (first_is_found xs ∙ e)))

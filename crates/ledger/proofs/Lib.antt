@@ -4,3 +4,4 @@ pub mod Kept
 pub mod Soonest
 pub mod Places
 pub mod Bounds
+pub mod Each

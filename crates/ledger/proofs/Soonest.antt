@@ -1,7 +1,6 @@
 -- A tick that no last tick is below. Assumes nothing.
-use Rattle.std.proofs.Common.{◌≡◌, ℕ, ◌+◌, ◌<◌, ◌≤◌, min, true, List, [], ◌∷◌, ◌++◌, length, take, set, filter, sym, subst, inl, inr, arith}
+use Rattle.std.proofs.Common.{◌≡◌, ℕ, ◌≤◌, min, true, List, [], ◌∷◌, ◌++◌, filter, subst, inl, inr, arith}
 use Rattle.std.proofs.ByRecursion.{has_push_cases}
-use Rattle.std.proofs.lemmas.List.{take_more_set}
 use Rattle.std.proofs.lemmas.Bool.{le-leb}
 use Rattle.ledger.specs.declared.standing.Standing.{Standing}
 use Rattle.ledger.specs.Standings.{Sooner, lasts}
@@ -12,10 +11,6 @@ sooner_push t xs x sooner s has = elim (has_push_cases xs x s has) [
   | inl before ↦ let le = sooner s before in omega arith
   | inr same ↦ subst (λ y. min t x.last_tick ≤ y.last_tick) same (omega arith)
 ]
-
--- the turn of a loop that copies x down to place k
-pub sooner_more : (t k : ℕ) (xs : List Standing) (x : Standing) → k < length xs → Sooner t (take k xs) → Sooner (min t x.last_tick) (take (k + 1) (set xs k x))
-sooner_more t k xs x below sooner = subst (Sooner (min t x.last_tick)) (sym (take_more_set xs k x below)) (sooner_push t (take k xs) x sooner)
 
 -- up to the soonest tick nothing is over
 pub none_over : (t clock : ℕ) (xs : List Standing) → Sooner t xs → clock ≤ t → filter (lasts clock) xs ≡ xs

@@ -1,11 +1,9 @@
 -- Lists of standing requests. Assumes nothing.
-use Rattle.std.specs.Prelude.{ℕ, ◌≤◌, Bool, cond, not, List, [], ◌∷◌, map, Some, None, Option, nat_le}
-use Rattle.std.specs.List.{ContainsAt as Has}
+use Rattle.std.specs.Prelude.{ℕ, ◌≤◌, Bool, not, List, map, Option, nat_le}
+use Rattle.std.specs.List.{find, ContainsAt as Has}
 use Rattle.refusal.specs.declared.kinds.Name.{Name}
 use Rattle.reservation.specs.declared.request.Request.{Request}
 use Rattle.policy.specs.Views.{named}
-use Rattle.ledger.specs.declared.keep.Keep.{Keep}
-use Rattle.ledger.specs.declared.keep.Keep.TheVariants.{Except, From}
 use Rattle.ledger.specs.declared.standing.Standing.{Standing}
 
 abbrev pub requests : List Standing → List Request
@@ -19,15 +17,10 @@ other n s = not (named n s.request)
 abbrev pub lasts : ℕ → Standing → Bool
 lasts clock s = nat_le clock s.last_tick
 
-abbrev pub stays : Keep → Standing → Bool
-stays (Except n) s = other n s
-stays (From clock) s = lasts clock s
-
 -- no last tick is below t
 abbrev pub Sooner : ℕ → List Standing → Type 0
 Sooner t xs = (s : Standing) → Has xs s → t ≤ s.last_tick
 
 -- the first of that name, if there is one
 abbrev pub first_of_name : Name → List Standing → Option Standing
-first_of_name n [] = None
-first_of_name n (s ∷ xs) = cond (named n s.request) (Some s) (first_of_name n xs)
+first_of_name n = find (λ s. named n s.request)

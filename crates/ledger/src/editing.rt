@@ -1,14 +1,13 @@
 // What alters a ledger. Only `new` allocates.
-ghost use Rattle.std.specs.Prelude.{◌≡◌, true, false, ◌⊎◌, [], ◌∷◌, ◌++◌, length, IfOk, if◌then◌else◌, None, filter, nat_lt};
+ghost use Rattle.std.specs.Prelude.{◌≡◌, Bool, true, OnErr, is_ok, ◌⊎◌, [], ◌∷◌, ◌++◌, length, IfOk, if◌then◌else◌, None, filter, nat_lt};
 ghost use Rattle.std.specs.List.{ContainsAt as Has};
 ghost use Rattle.ledger.specs.declared.standing.Standing.{Standing};
 ghost use Rattle.ledger.specs.Entries.{entries};
 ghost use Rattle.ledger.specs.Standings.{first_of_name, lasts, other};
 
-use super::keep::Keep;
 use super::ledger::Ledger;
-use super::scan::{append, first_named, retain};
-use super::standing::Standing;
+use super::scan::{append, first_named, soonest_of};
+use super::standing::{Full, Standing};
 use refusal::kinds::Name;
 use reservation::request::Request;
 use std::alloc::{AllocError, Global};
@@ -25,22 +24,32 @@ impl Ledger {
         })
     }
 
-    // Appends the request; where 64 stand, it alters nothing and answers false.
-    pub fn push(&mut self, request: Request, last_tick: u32) -> bool
-        ensures answer { result ≡ nat_lt (length (entries self.old)) 64 }
+    // Appends the request; where 64 stand, it alters nothing and refuses.
+    pub fn push(&mut self, request: Request, last_tick: u32) -> Result<(), Full>
+        ensures answer { is_ok result ≡ nat_lt (length (entries self.old)) 64 }
         ensures after { entries self.new ≡ (if nat_lt (length (entries self.old)) 64 then (entries self.old ++ record { request = request; last_tick = last_tick } ∷ []) else entries self.old) }
         ensures stood { (s : Standing) → Has (entries self.new) s → Has (entries self.old) s ⊎ (record { request = request; last_tick = last_tick } ≡ s) }
-        ensures spared { result ≡ false → self.new ≡ self.old }
+        ensures spared { OnErr result (self.new ≡ self.old) }
     {
         if self.is_full() {
-            return false;
+            return Err(Full);
         }
         self.soonest = append(
             &mut self.standing,
             self.soonest,
             Standing { request, last_tick },
         );
-        true
+        Ok(())
+    }
+
+    // Keeps those that pass, and works out anew which last tick is the soonest.
+    fn keep<F: Fn(&Standing) -> bool>(&mut self, passes: F)
+        requires { F.IsAlwaysCallable passes }
+        ensures kept { (test : Standing → Bool) → ((one : _) (b : Bool) → F.post passes one b → b ≡ test one.now) → entries self.new ≡ filter test (entries self.old) }
+        ensures stood { (s : Standing) → Has (entries self.new) s → Has (entries self.old) s }
+    {
+        self.standing.retain(passes);
+        self.soonest = soonest_of(self.as_slice());
     }
 
     // Takes out every request of that name, and answers the first of them.
@@ -51,7 +60,7 @@ impl Ledger {
         ensures spared { result ≡ None → self.new ≡ self.old }
     {
         let first = first_named(self.as_slice(), name)?;
-        self.soonest = retain(&mut self.standing, Keep::Except(name));
+        self.keep(|one| one.request.name() != name);
         Some(first)
     }
 
@@ -70,6 +79,6 @@ impl Ledger {
         if self.none_over(clock) {
             return;
         }
-        self.soonest = retain(&mut self.standing, Keep::From(clock));
+        self.keep(|one| clock <= one.last_tick);
     }
 }

@@ -2,7 +2,6 @@
 #![tactic(auto)]
 
 pub mod editing;
-mod keep;
 pub mod ledger;
 pub mod reading;
 mod scan;

@@ -5,7 +5,7 @@ ghost use Rattle.ledger.specs.Entries.{entries};
 ghost use Rattle.ledger.specs.Standings.{requests};
 
 use super::ledger::Ledger;
-use super::scan::{entry_of, request_at};
+use super::scan::first_named;
 use super::standing::Standing;
 use refusal::kinds::Name;
 use reservation::request::Request;
@@ -26,17 +26,20 @@ impl Ledger {
     }
 
     // The entry tick of the standing request of that name.
+    #[tactic(auto, using(crate::proofs::Firsts::found_first))]
     pub fn find(&self, name: Name) -> Option<u32>
         ensures found { result ≡ found name (requests (entries self.now)) }
     {
-        entry_of(self.as_slice(), name)
+        first_named(self.as_slice(), name).map(|one| one.request.entry)
     }
 
     // The i-th standing request, from 1.
+    #[tactic(auto, using(crate::proofs::Places::numbered_cases))]
     pub fn at(&self, i: u32) -> Option<Request>
         ensures numbered { result ≡ numbered (requests (entries self.now)) i }
     {
-        request_at(self.as_slice(), i)
+        let place = i.checked_sub(1)?;
+        self.as_slice().get(place as usize).map(|one| one.request)
     }
 
     // All that stand, in the order granted.

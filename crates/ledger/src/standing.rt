@@ -7,3 +7,7 @@ pub struct Standing {
     pub request: Request,
     pub last_tick: u32,
 }
+
+// 64 stand, so that no other can.
+#[derive(Clone, Copy)]
+pub struct Full;

@@ -1,4 +1,4 @@
 pub mod Xor
 pub mod Lowest
 pub mod Finds
-pub mod Cells
+pub mod Rings

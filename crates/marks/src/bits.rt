@@ -1,24 +1,18 @@
-// One bit of a word at a time.
+// The bits of a word.
 ghost use Rattle.std.specs.Prelude.{◌≡◌, ℕ, ◌<◌, true, not, ◌&&◌, if◌then◌else◌, ◌==◌};
 ghost use Rattle.grid.specs.Sets.{bit};
 
-// The lowest bit that is 1.
-pub(crate) fn lowest(word: u64) -> u32
-    requires { 0 < word }
+// Turns the lowest bit that is 1 to 0, and says which it was.
+pub(crate) fn take_lowest(word: &mut u64) -> u32
+    requires { 0 < word.old }
     ensures within { result < 64 }
-    ensures on { bit word result ≡ true }
+    ensures on { bit word.old result ≡ true }
+    ensures bits { (j : ℕ) → bit word.new j ≡ (bit word.old j && not (j == result)) }
+    ensures falls { word.new < word.old }
 {
-    word.trailing_zeros()
-}
-
-// The word with bit `k`, which is 1, turned to 0.
-pub(crate) fn turned_off(word: u64, k: u32) -> u64
-    requires within { k < 64 }
-    requires on { bit word k ≡ true }
-    ensures bits { (j : ℕ) → bit result j ≡ (bit word j && not (j == k)) }
-    ensures falls { result < word }
-{
-    word ^ (1 << k)
+    let lowest = word.trailing_zeros();
+    *word &= *word - 1;
+    lowest
 }
 
 // The tiles that have a mark, once those of `tiles` are given the mark `vehicle`.

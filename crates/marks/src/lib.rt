@@ -3,5 +3,4 @@
 
 mod bits;
 pub mod marks;
-pub mod reading;
-pub mod writing;
+mod row;

@@ -1,8 +1,7 @@
 -- Which numbers each kind of message carries, and which values each may have. Assumes nothing.
-use Rattle.std.specs.Prelude.{◌≡◌, ℕ, ◌≤◌, true, List, [], ◌∷◌, Some, None, Option, ◌≢◌}
-use Rattle.refusal.specs.Numbers.{number_of, reason_number}
+use Rattle.std.specs.Prelude.{◌≡◌, ℕ, ◌≤◌, true, List, [], ◌∷◌}
+use Rattle.refusal.specs.Numbers.{number_of}
 use Rattle.refusal.specs.declared.kinds.Denial.{Denial}
-use Rattle.refusal.specs.declared.kinds.Reason.{Reason}
 use Rattle.refusal.specs.declared.kinds.Refusal.TheVariants.{Denied}
 use Rattle.message.specs.Rows.{fits_distance, fits_entry, is_number, fits_vehicle}
 use Rattle.message.specs.declared.kinds.Kind.{Kind}
@@ -34,8 +33,3 @@ AllTake [] [] = Unit {0}
 AllTake [] (n ∷ ns) = ⊥
 AllTake (f ∷ fs) [] = ⊥
 AllTake (f ∷ fs) (n ∷ ns) = Takes f n × AllTake fs ns
-
--- the reason of that number, or that no reason has it
-abbrev pub ReasonOf : ℕ → Option Reason → Type 0
-ReasonOf n (Some r) = reason_number r ≡ n
-ReasonOf n None = (r : Reason) → reason_number r ≢ n

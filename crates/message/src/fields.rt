@@ -1,41 +1,17 @@
 // Which numbers each kind of message carries, and which values each may have.
 ghost use Rattle.std.specs.Prelude.{◌≡◌, Decides};
-ghost use Rattle.message.specs.Fields.{ReasonOf, Takes, fields_of};
+ghost use Rattle.message.specs.Fields.{Takes, fields_of};
 
 use super::kinds::{Field, Kind};
 use super::ranges::{is_distance, is_entry, is_number, is_vehicle};
 use refusal::kinds::Reason;
 
-// The reason of that number. A new reason that REJECT may carry wants its line here.
-pub fn reason_of(number: u32) -> Option<Reason>
-    ensures answer { ReasonOf number result }
-{
-    match number {
-        29 => Some(Reason::NameStands),
-        30 => Some(Reason::Free30),
-        31 => Some(Reason::StopLine),
-        32 => Some(Reason::Free32),
-        33 => Some(Reason::Limit),
-        35 => Some(Reason::LedgerFull),
-        36 => Some(Reason::Range),
-        37 => Some(Reason::BaseGone),
-        38 => Some(Reason::Answered),
-        39 => Some(Reason::Time),
-        _ => None,
-    }
-}
-
 // Whether REJECT may carry the number.
 fn is_carried(number: u32) -> bool
     ensures { Decides result (Takes Field.Reason number) }
 {
-    if number == 34 {
-        return true;
-    }
-    match reason_of(number) {
-        Some(_) => true,
-        None => false,
-    }
+    // 34 is a clash
+    number == 34 || Reason::try_from(number).is_ok()
 }
 
 impl Kind {

@@ -10,6 +10,17 @@ pub enum Kind {
     Reject,
 }
 
+impl Kind {
+    pub const ALL: [Kind; 6] = [
+        Kind::Request,
+        Kind::Change,
+        Kind::Cancel,
+        Kind::Done,
+        Kind::Confirm,
+        Kind::Reject,
+    ];
+}
+
 // What a number of a message stands for.
 #[derive(Clone, Copy)]
 pub enum Field {

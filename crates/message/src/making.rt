@@ -23,12 +23,12 @@ impl Message {
         ensures answer { result ≡ vehicle_of self.now.row }
     {
         match self.row {
-            MessageRow::Request { vehicle, .. } => vehicle,
-            MessageRow::Change { vehicle, .. } => vehicle,
-            MessageRow::Cancel { vehicle, .. } => vehicle,
-            MessageRow::Done { vehicle } => vehicle,
-            MessageRow::Confirm { vehicle, .. } => vehicle,
-            MessageRow::Reject { vehicle, .. } => vehicle,
+            MessageRow::Request { vehicle, .. }
+            | MessageRow::Change { vehicle, .. }
+            | MessageRow::Cancel { vehicle, .. }
+            | MessageRow::Done { vehicle }
+            | MessageRow::Confirm { vehicle, .. }
+            | MessageRow::Reject { vehicle, .. } => vehicle,
         }
     }
 }

@@ -55,3 +55,14 @@ one_answer clash w gate r =
     (row_once _ _ _ (λ a b p q. p.2 ∙ ap (λ x. Err (Clash (name_of x))) (earliest_same _ w.ledger p.0 q.0 p.1 q.1) ∙ sym q.2)
     (row_once _ _ _ (denied_once _)
     (λ a b p q. p ∙ sym q))))))
+
+-- two of a kind that tell the same of a request answer it the same
+pub one_answer_of_both : {S : Type 0} (view : S → View) (gate : S → Request → Option Reason) (clash : Junction → Request → Request → Type 0)
+    (asks : S → Request → Result (Unit {0}) Denial → S → Type 0)
+    (answers : (s : S) (r : Request) (a : Result (Unit {0}) Denial) (t : S) → asks s r a t → Answer clash (view s) (gate s r) r a)
+    (s t u v : S) (r : Request) (a b : Result (Unit {0}) Denial)
+    → asks s r a u → asks t r b v → view s ≡ view t → gate s r ≡ gate t r → a ≡ b
+one_answer_of_both view gate clash asks answers s t u v r a b one other same gates =
+    one_answer clash (view s) (gate s r) r a b (answers s r a u one)
+    (subst (λ w. Answer clash w (gate s r) r b) (sym same)
+    (subst (λ k. Answer clash (view t) k r b) (sym gates) (answers t r b v other)))

@@ -10,7 +10,7 @@ use Rattle.grid.proofs.Somes.{same_tests, some_at, some_found, some_never, some_
 use Rattle.grid.proofs.Sweeps.{step_found, touched_below, touched_inside, touched_point}
 use Rattle.grid.proofs.Same.{same_junction}
 use Rattle.reservation.specs.declared.request.Request.{Request}
-use Rattle.reservation.specs.Cells.{Holds, SharesCell, both, has, locks, near, paths_meet, is_same_junction, share, is_span_met}
+use Rattle.reservation.specs.Cells.{Holds, SharesCell, both, has, locks, near, paths_meet, is_same_junction, share, spans_overlap}
 use Rattle.reservation.specs.Requests.{first_tick_of, last_tick_of, span_end}
 
 pub one_junction : (j k : Junction) → is_same_junction j k ≡ true → j ≡ k
@@ -159,7 +159,7 @@ share_locks j p q e =
     let t = w.1 in
     let within = has_within j p tile t w.2 in
     let inside = has_within j q tile t w.3 in
-    and_from (paths_meet j p q) (is_span_met j p q)
+    and_from (paths_meet j p q) (spans_overlap j p q)
     (some_at 64 _ tile (has_tile_lem j p tile t w.2) (and_from _ _ (has_path j p tile t w.2) (has_path j q tile t w.3)))
     (and_from _ _ (le-leb (first_tick_of j p) (last_tick_of j q) (omega arith)) (le-leb (first_tick_of j q) (last_tick_of j p) (omega arith)))
 

@@ -7,7 +7,7 @@ use Rattle.grid.specs.Bodies.{Fits, fits}
 use Rattle.grid.specs.Steps.{duration_of}
 use Rattle.grid.proofs.Fitting.{fits_parts, lasts_few, lasts_some}
 use Rattle.reservation.specs.declared.request.Request.{Request}
-use Rattle.reservation.specs.Requests.{in_range, are_numbers_fit}
+use Rattle.reservation.specs.Requests.{in_range, numbers_in_range}
 
 pub record InRange (j : Junction) (r : Request) : Type 0 where
   pub vehicle : 1 ≤ r.vehicle
@@ -23,9 +23,9 @@ pub record InRange (j : Junction) (r : Request) : Type 0 where
   pub buffer : j.buffer ≤ 4
 
 pub range_parts : (j : Junction) (r : Request) → in_range j r ≡ true → InRange j r
-unfolding are_numbers_fit
+unfolding numbers_in_range
 range_parts j r e =
-    let parts = and_parts (are_numbers_fit r) (fits j.lanes r.body) e in
+    let parts = and_parts (numbers_in_range r) (fits j.lanes r.body) e in
     let numbers = parts.0 in
     let body = fits_parts j.lanes r.body parts.1 in
     record {

@@ -41,12 +41,12 @@ abbrev pub paths_meet : Junction → Request → Request → Bool
 paths_meet j p q = some 64 (λ tile. path_touches j.lanes p.body tile && path_touches j.lanes q.body tile)
 
 -- the two spans, first to last tick, overlap
-abbrev pub is_span_met : Junction → Request → Request → Bool
-is_span_met j p q = nat_le (first_tick_of j p) (last_tick_of j q) && nat_le (first_tick_of j q) (last_tick_of j p)
+abbrev pub spans_overlap : Junction → Request → Request → Bool
+spans_overlap j p q = nat_le (first_tick_of j p) (last_tick_of j q) && nat_le (first_tick_of j q) (last_tick_of j p)
 
 -- the two paths touch a common tile, and the spans overlap
 unfoldable pub locks : Junction → Request → Request → Bool
-locks j p q = paths_meet j p q && is_span_met j p q
+locks j p q = paths_meet j p q && spans_overlap j p q
 
 -- the two junctions are one
 abbrev pub is_same_junction : Junction → Junction → Bool

@@ -10,15 +10,15 @@ abbrev pub name_of : Request → Name
 name_of r = record { vehicle = r.vehicle; number = r.number }
 
 -- the numbers beside the body are in their ranges
-unfoldable pub are_numbers_fit : Request → Bool
-are_numbers_fit r =
+unfoldable pub numbers_in_range : Request → Bool
+numbers_in_range r =
     nat_le 1 r.vehicle && nat_le r.vehicle 1024
     && nat_le 1 r.number && nat_le r.number 1000
     && nat_le r.distance 2000 && nat_le r.entry 1000127
 
 -- all numbers of the request are in their ranges, and its lane suits its movement
 abbrev pub in_range : Junction → Request → Bool
-in_range j r = are_numbers_fit r && fits j.lanes r.body
+in_range j r = numbers_in_range r && fits j.lanes r.body
 
 -- the tick after the last one of an entry's span
 abbrev pub span_end : Junction → Request → ℕ

@@ -1,7 +1,7 @@
 // The cells of a request.
 ghost use Rattle.std.specs.Prelude.{◌≡◌};
 ghost use Rattle.reservation.specs.Meetings.{CellsAt};
-ghost use Rattle.reservation.specs.Requests.{last_tick_of};
+ghost use Rattle.reservation.specs.Requests.{first_tick_of, last_tick_of};
 
 use super::footprint::Footprint;
 use grid::tiles::TileSet;
@@ -30,6 +30,13 @@ impl Footprint {
         TileSet {
             bits: self.word_at(tick),
         }
+    }
+
+    // The first tick of the span.
+    pub fn first_tick(&self) -> u32
+        ensures answer { result ≡ first_tick_of self.now.junction self.now.request }
+    {
+        self.request.entry.saturating_sub(self.junction.buffer)
     }
 
     // The last tick of the span.

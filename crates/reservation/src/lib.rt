@@ -6,5 +6,6 @@ pub mod cells;
 pub mod entries;
 pub mod footprint;
 pub mod making;
+mod passage;
 pub mod request;
 pub mod spans;

@@ -2,7 +2,7 @@
 ghost use Rattle.std.specs.Prelude.{◌≡◌, length};
 ghost use Rattle.reservation.specs.Footprints.{Swept};
 ghost use Rattle.reservation.specs.Made.{FootprintOf, RequestPath};
-ghost use Rattle.reservation.specs.Requests.{are_numbers_fit};
+ghost use Rattle.reservation.specs.Requests.{numbers_in_range};
 
 use super::footprint::Footprint;
 use super::request::Request;
@@ -11,12 +11,10 @@ use grid::path::Path;
 
 // Whether the numbers beside the body are in their ranges.
 fn numbers_fit(r: &Request) -> bool
-    ensures { result ≡ are_numbers_fit r.now }
+    ensures { result ≡ numbers_in_range r.now }
 {
-    r.vehicle >= 1
-        && r.vehicle <= 1024
-        && r.number >= 1
-        && r.number <= 1000
+    (1..=1024).contains(&r.vehicle)
+        && (1..=1000).contains(&r.number)
         && r.distance <= 2000
         && r.entry <= 1_000_127
 }
@@ -28,6 +26,7 @@ fn sweep(path: &Path) -> [u64; 47]
 {
     let slack = 2 * path.junction.buffer;
     let mut words = [0; 47];
+    // not all 47 words are written, and `k` is a tick of the span as well as a place: `iter_mut` would say both again
     for k in 0..path.duration + slack {
         let tiles = path.steps_tiles(k.saturating_sub(slack), k);
         words[k as usize] = tiles.bits;

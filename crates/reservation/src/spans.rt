@@ -1,18 +1,10 @@
 // How two requests meet.
 ghost use Rattle.std.specs.Prelude.{◌≡◌, true};
 ghost use Rattle.grid.specs.Some.{some};
-ghost use Rattle.reservation.specs.Cells.{both, is_same_junction, is_span_met};
+ghost use Rattle.reservation.specs.Cells.{both, is_same_junction};
 ghost use Rattle.reservation.specs.Meetings.{Locks, OfOne, Shares};
 
 use super::footprint::Footprint;
-use grid::junction::Junction;
-
-// Whether the two junctions are one.
-fn same_junction(one: Junction, other: Junction) -> bool
-    ensures { result ≡ is_same_junction one other }
-{
-    one.lanes == other.lanes && one.buffer == other.buffer
-}
 
 impl Footprint {
     // Whether the two requests share a cell at the tick.
@@ -39,29 +31,11 @@ impl Footprint {
         false
     }
 
-    // Whether the two spans overlap.
-    fn spans_meet(&self, other: &Footprint) -> bool
-        requires { is_same_junction self.now.junction other.now.junction ≡ true }
-        ensures { result ≡ is_span_met self.now.junction self.now.request other.now.request }
-    {
-        let buffer = self.junction.buffer;
-        self.request.entry.saturating_sub(buffer) <= other.last_tick()
-            && other.request.entry.saturating_sub(buffer) <= self.last_tick()
-    }
-
-    // Whether the two paths touch a common tile, and the spans overlap.
-    fn lock_any(&self, other: &Footprint) -> bool
-        requires { is_same_junction self.now.junction other.now.junction ≡ true }
-        ensures { Locks self.now.junction self.now.request other.now.request result }
-    {
-        self.whole.meets(other.whole) && self.spans_meet(other)
-    }
-
     // Whether the two requests share a cell; nothing where they are not of one junction.
     pub fn shares_cell(&self, other: &Footprint) -> Option<bool>
         ensures { OfOne self.now.junction other.now.junction (Shares self.now.junction self.now.request other.now.request) result }
     {
-        if !same_junction(self.junction, other.junction) {
+        if self.junction != other.junction {
             return None;
         }
         Some(self.share_any(other))
@@ -72,9 +46,9 @@ impl Footprint {
     pub fn locks(&self, other: &Footprint) -> Option<bool>
         ensures { OfOne self.now.junction other.now.junction (Locks self.now.junction self.now.request other.now.request) result }
     {
-        if !same_junction(self.junction, other.junction) {
+        if self.junction != other.junction {
             return None;
         }
-        Some(self.lock_any(other))
+        Some(self.passage().locks(&other.passage()))
     }
 }

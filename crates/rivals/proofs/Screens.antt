@@ -4,6 +4,7 @@ use Rattle.std.specs.Option.{ok_or}
 use Rattle.grid.specs.declared.junction.Junction.{Junction}
 use Rattle.refusal.specs.declared.kinds.Denial.{Denial}
 use Rattle.refusal.specs.declared.kinds.Denial.TheVariants.{Because}
+use Rattle.refusal.specs.declared.kinds.Reason.{Reason}
 use Rattle.refusal.specs.declared.kinds.Reason.TheVariants.{Range}
 use Rattle.reservation.specs.declared.footprint.Footprint.{Footprint}
 use Rattle.reservation.specs.declared.request.Request.{Request}
@@ -16,9 +17,16 @@ use Rattle.rivals.specs.Screening.{Screens}
 
 module _ (w : View) (r : Request) where
   -- a request that no row stops
-  pub screens_past : (o : Option Footprint) → Stopped w None r None → FootprintOf w.junction r o → Screens w r (ok_or o (Because Range))
-  screens_past (Some f) past of = screened_past w r (λ g a. a ≡ Err (Because g)) (λ a. (g : Footprint) × (a ≡ Ok g) × (g.junction ≡ w.junction) × (g.request ≡ r)) (Ok f) past (f, refl, of.0, of.1)
+  pub screens_past : (o : Option Footprint) → Stopped w None r (Ok tt) → FootprintOf w.junction r o → Screens w r (ok_or o (Because Range))
+  screens_past (Some f) past of = screened_past w r (λ g a. a ≡ Err (Because g)) (λ a. (h : Footprint) × (a ≡ Ok h) × (h.junction ≡ w.junction) × (h.request ≡ r)) (Ok f) past (f, refl, of.0, of.1)
   screens_past None past of = inl (of, refl)
+
+  -- and one that a row stops
+  pub screens_stopped : (g : Reason) → Stopped w None r (Err g) → Screens w r (Err (Because g))
+  screens_stopped g (inl range) = inl (range.0, let e = range.1 in cc)
+  screens_stopped g (inr (p, inl time)) = inr (p, inl (time.0, let e = time.1 in cc))
+  screens_stopped g (inr (p, inr (q, inl name))) = inr (p, inr (q, inl (name.0, let e = name.1 in cc)))
+  screens_stopped g (inr (p, inr (q, inr (s, e)))) = cc
 
   -- one that is screened and refused has that answer, whatever clashes
   pub screened_answer : (clash : Junction → Request → Request → Type 0) (d : Denial) → Screens w r (Err d) → Answer clash w None r (Err d)
@@ -28,7 +36,7 @@ module _ (w : View) (r : Request) where
   screened_answer clash d (inr (p, inr (q, inr (s, told)))) = let e = told.1 in cc
 
   -- one with a footprint is stopped by no row
-  pub screened_footprint : (f : Footprint) → Screens w r (Ok f) → Stopped w None r None × (f.junction ≡ w.junction) × (f.request ≡ r)
+  pub screened_footprint : (f : Footprint) → Screens w r (Ok f) → Stopped w None r (Ok tt) × (f.junction ≡ w.junction) × (f.request ≡ r)
   screened_footprint f (inl range) = let e = range.1 in cc
   screened_footprint f (inr (p, inl time)) = let e = time.1 in cc
   screened_footprint f (inr (p, inr (q, inl name))) = let e = name.1 in cc

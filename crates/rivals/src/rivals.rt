@@ -14,13 +14,9 @@ use reservation::request::Request;
 fn clashes_with<C: Clashes>(request: &Request, footprint: &Footprint) -> bool
     ensures { Decides result ((in_range footprint.now.junction request.now ≡ true) × C.clash footprint.now.junction request.now footprint.now.request) }
 {
-    match Footprint::of(footprint.junction, request) {
-        Some(other) => match C::clashes(&other, footprint) {
-            Some(answer) => answer,
-            None => false,
-        },
-        None => false,
-    }
+    Footprint::of(footprint.junction, request)
+        .and_then(|other| C::clashes(&other, footprint))
+        .unwrap_or(false)
 }
 
 // Whether the request is a rival of the footprint's.
@@ -34,15 +30,14 @@ fn is_rival<C: Clashes>(request: &Request, footprint: &Footprint) -> bool
 fn first_rival<C: Clashes>(standing: &[Standing], footprint: &Footprint) -> Option<Name>
     ensures { Sought (Rival C.clash footprint.now.junction footprint.now.request) (requests standing.now) result }
 {
-    for one in standing {
-        if is_rival::<C>(&one.request, footprint) {
-            return Some(one.request.name());
-        }
-    }
-    None
+    standing
+        .iter()
+        .find(|one| is_rival::<C>(&one.request, footprint))
+        .map(|one| one.request.name())
 }
 
-// The name of the earliest standing request that is in the way of the footprint's.
+// The name of the earliest standing request that is in the way of the footprint's. Apart from the search, so that an
+// edit of what is searched is refused here and not in a proof.
 pub fn earliest_rival<C: Clashes>(standing: &[Standing], footprint: &Footprint) -> Option<Name>
     ensures answer { Sought (Rival C.clash footprint.now.junction footprint.now.request) (requests standing.now) result }
 {

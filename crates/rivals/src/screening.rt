@@ -10,8 +10,8 @@ use refusal::kinds::{Denial, Reason};
 use reservation::footprint::Footprint;
 use reservation::request::Request;
 
-// Why the request is refused whoever else stands: its range, its time or its name.
-fn stop(junction: Junction, clock: u32, ledger: &Ledger, request: &Request) -> Option<Reason>
+// Refuses the request whoever else stands: for its range or its time, or because its name stands.
+fn stop(junction: Junction, clock: u32, ledger: &Ledger, request: &Request) -> Result<(), Reason>
     ensures { Stopped (told junction clock ledger.now) None request.now result }
 {
     let standing = ledger.find(request.name());
@@ -27,8 +27,6 @@ pub fn screened(
 ) -> Result<Footprint, Denial>
     ensures answer { Screens (told junction clock ledger.now) request.now result }
 {
-    if let Some(reason) = stop(junction, clock, ledger, request) {
-        return Err(Denial::Because(reason));
-    }
+    stop(junction, clock, ledger, request)?;
     Footprint::of(junction, request).ok_or(Denial::Because(Reason::Range))
 }

@@ -17,8 +17,6 @@ use Rattle.vehicle.specs.declared.rows.VehicleRow.{VehicleRow}
 use Rattle.vehicle.specs.Records.{Good}
 use Rattle.vehicle.specs.Rows.{good_lag}
 use Rattle.vehicle.specs.States.{in_state}
-use Rattle.run.specs.declared.call.Answer.{Answer}
-use Rattle.run.specs.declared.call.Answer.TheVariants as answer
 use Rattle.run.specs.declared.call.Call.{Call}
 use Rattle.run.specs.declared.call.Call.TheVariants as call
 use Rattle.run.specs.declared.run.Run.{Run}
@@ -203,14 +201,18 @@ Opens vs ms v = Ruled
     (row fault.Policy ((v.clock ≡ 0) × (v.ledger ≡ [])) end))
     (Counts v 0 0) (Unit {0})
 
+-- what any call answers: an accepted one a number, or none
+abbrev pub Answer : Type 0
+Answer = Result (Option ℕ) CallFault
+
 -- what an answer by number, or without one, is as an answer of any call
 abbrev pub answer_by_number : Result ℕ CallFault → Answer
-answer_by_number (Ok n) = answer.Numbered n
-answer_by_number (Err f) = answer.Refused f
+answer_by_number (Ok n) = Ok (Some n)
+answer_by_number (Err f) = Err f
 
 abbrev pub plain : {X : Type 0} → Result X CallFault → Answer
-plain (Ok _) = answer.Accepted
-plain (Err f) = answer.Refused f
+plain (Ok _) = Ok None
+plain (Err f) = Err f
 
 -- the run after an open: the new one, or where it was refused the one before
 abbrev pub opened : Run → Result Run CallFault → Run

@@ -17,10 +17,5 @@ pub enum Call {
     Tick,
 }
 
-#[derive(Clone, Copy)]
-pub enum Answer {
-    Accepted,
-    // the number of the vehicle that arrived, or of the request that was sent
-    Numbered(u32),
-    Refused(CallFault),
-}
+// What a call answers: an accepted one the number of the vehicle that arrived or of the request that was sent, or none.
+pub type Answer = Result<Option<u32>, CallFault>;

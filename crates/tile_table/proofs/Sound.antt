@@ -1,5 +1,5 @@
 -- How each call keeps what always holds of a tile table. Assumes nothing.
-use Rattle.std.proofs.Common.{◌≡◌, ℕ, ◌+◌, ◌*◌, ◌%◌, ◌<◌, ◌≤◌, Bool, true, false, not, eqb, ltb, leb, List, [], ◌∷◌, ◌++◌, get_or, None, Ok, filter, sym, ap, ◌∙◌, subst, inl, inr, ⊎_elim, arith}
+use Rattle.std.proofs.Common.{◌≡◌, ℕ, ◌+◌, ◌%◌, ◌<◌, ◌≤◌, Bool, true, false, not, eqb, ltb, leb, List, [], ◌∷◌, ◌++◌, None, Ok, filter, sym, ap, ◌∙◌, subst, inl, inr, ⊎_elim, arith}
 use Rattle.std.specs.List.{ContainsAt as Has}
 use Rattle.std.proofs.ByRecursion.{all-has, has_push, has_push_cases, kept_by_passes}
 use Rattle.std.proofs.lemmas.Bool.{and_from, and_parts, cases_Bool, cases_eq, cases_lt, cond-true, cond-false, eq-eqb, eqb-true, leb-false, leb-true, ltb-true, ne_eqb, not-false, not_from_false}
@@ -16,6 +16,7 @@ use Rattle.policy.specs.Views.{View, lasting, named}
 use Rattle.policy.proofs.Layers.{ok_err}
 use Rattle.marks.specs.declared.marks.Marks.{Marks}
 use Rattle.marks.specs.Marked.{mark}
+use Rattle.marks.proofs.Rings.{mark_around}
 use Rattle.ledger.specs.declared.standing.Standing.{Standing}
 use Rattle.ledger.specs.Entries.{entries}
 use Rattle.ledger.specs.Standings.{requests}
@@ -196,7 +197,7 @@ module _ (j : Junction) (clock : ℕ) (rs : List Request) (m : Marks) (sound : S
             let same : t % 128 ≡ clock % 128 = omega (arith, w.2) in
             let none : (r : Request) → Has rs r → has j r tile t ≡ false =
             λ r inside. let reach = sound.ahead r inside in after_last j r tile t (omega arith) in
-            ap (λ k. get_or new.cells (64 * k + tile) 0) same ∙ here tile w.0
+            mark_around new tile t clock same ∙ here tile w.0
             ∙ sym (given_none j tile t (filter p rs) (λ r inside. none r (has_kept_by p rs r inside))))
             (cases_lt t (clock + 128));
       }

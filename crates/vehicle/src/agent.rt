@@ -1,18 +1,18 @@
 // What a vehicle makes of a message that is delivered to it.
-ghost use Rattle.std.specs.Prelude.{◌≡◌, Some, Decides};
-ghost use Rattle.vehicle.specs.Hearing.{Hears, InTime, farewell};
+ghost use Rattle.std.specs.Prelude.{◌≡◌, Some};
+ghost use Rattle.vehicle.specs.Hearing.{Hears, farewell};
 ghost use Rattle.vehicle.specs.States.{in_state};
 ghost use Rattle.vehicle.specs.declared.rows.State.TheVariants.{Holding};
 
+use super::now::Now;
 use super::rows::{Claim, State, VehicleRow};
-use grid::junction::Junction;
 use message::row::MessageRow;
 
-// Whether the first tick of the claim is still to come.
-fn is_in_time(junction: Junction, clock: u32, claim: Claim) -> bool
-    ensures { Decides result (InTime junction clock claim) }
-{
-    claim.entry as u64 > clock as u64 + junction.buffer as u64
+// What comes of a message: the row of its vehicle, and what takes the place of the message.
+#[derive(Clone, Copy)]
+pub struct Reaction {
+    pub row: VehicleRow,
+    pub reply: Option<MessageRow>,
 }
 
 // A granted change: the vehicle holds what it awaited, and sends CANCEL of what it held.
@@ -27,18 +27,12 @@ fn change_over(vehicle: u32, held: Claim, awaited: Claim) -> (State, Option<Mess
 }
 
 // The state after the message, and what the vehicle sends.
-fn hear(
-    junction: Junction,
-    clock: u32,
-    vehicle: u32,
-    state: State,
-    message: MessageRow,
-) -> (State, Option<MessageRow>)
-    ensures { Hears junction clock vehicle state message result }
+fn hear(now: Now, vehicle: u32, state: State, message: MessageRow) -> (State, Option<MessageRow>)
+    ensures { Hears now.junction now.clock vehicle state message result }
 {
     match (state, message) {
         (State::Asking(asked), MessageRow::Confirm { number, .. }) if number == asked.number => {
-            if is_in_time(junction, clock, asked) {
+            if now.is_before(asked) {
                 (State::Holding(asked), None)
             } else {
                 (State::Idle, None)
@@ -46,7 +40,7 @@ fn hear(
         }
         (State::Changing { held, awaited }, MessageRow::Confirm { number, .. })
             if number == awaited.number => {
-            if is_in_time(junction, clock, awaited) {
+            if now.is_before(awaited) {
                 change_over(vehicle, held, awaited)
             } else {
                 (State::Holding(held), None)
@@ -63,16 +57,13 @@ fn hear(
 
 // The row of the vehicle of that number after the message, and what the vehicle sends. Of the row only the
 // state changes.
-pub fn respond(
-    junction: Junction,
-    clock: u32,
-    vehicle: u32,
-    row: VehicleRow,
-    message: MessageRow,
-) -> (VehicleRow, Option<MessageRow>)
-    ensures answer { Hears junction clock vehicle row.state message (result.0.state, result.1) }
-    ensures same { result.0 ≡ in_state row result.0.state }
+pub fn respond(now: Now, vehicle: u32, row: VehicleRow, message: MessageRow) -> Reaction
+    ensures answer { Hears now.junction now.clock vehicle row.state message (result.row.state, result.reply) }
+    ensures same { result.row ≡ in_state row result.row.state }
 {
-    let (state, sent) = hear(junction, clock, vehicle, row.state, message);
-    (VehicleRow { state, ..row }, sent)
+    let (state, reply) = hear(now, vehicle, row.state, message);
+    Reaction {
+        row: VehicleRow { state, ..row },
+        reply,
+    }
 }

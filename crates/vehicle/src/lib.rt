@@ -5,6 +5,7 @@
 pub mod agent;
 pub mod check;
 pub mod delays;
+pub mod now;
 pub mod rows;
 pub mod standing;
 pub mod states;

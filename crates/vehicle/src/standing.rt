@@ -11,10 +11,7 @@ fn step_at(clock: u32, entry: u32, lag: i32) -> Option<u32>
     ensures { StepAt clock entry lag result }
 {
     let step = clock as i64 - entry as i64 - lag as i64;
-    if step < 0 || step > u32::MAX as i64 {
-        return None;
-    }
-    Some(step as u32)
+    u32::try_from(step).ok()
 }
 
 // The tiles on which a vehicle of this path stands when it crosses with this entry and lag.
@@ -32,13 +29,11 @@ fn crossing_tiles(path: &Path, clock: u32, entry: u32, lag: i32) -> TileSet
 
 impl Vehicle {
     // The way across that the vehicle takes.
+    #[tactic(auto, unfolding(crate::specs::Rows::good_row))]
     pub fn path(&self) -> Path
         ensures answer { PathOf self.now result }
     {
-        match Path::of(self.junction, self.row.body) {
-            Some(path) => path,
-            None => unreachable(),
-        }
+        Path::of(self.junction, self.row.body).unwrap()
     }
 
     // The tiles on which the vehicle stands at the tick: those of its step if it is crossing.

@@ -1,20 +1,20 @@
-use Rattle.std.proofs.Common.{◌≡◌, None, sym, ◌∙◌}
-use Rattle.ledger.specs.Standings.{first_of_name}
-use Rattle.ledger.proofs.Firsts.{first_here, first_more, first_none, none_named}
+use Rattle.std.proofs.Common.{◌≡◌, List, filter, Some, None, Option, sym, ◌∙◌, rules}
+use Rattle.std.specs.Option.{IfNone}
+use Rattle.std.proofs.lemmas.Iterator.{YieldsList-from_slice}
+use Rattle.std.proofs.lemmas.Iterator.Search.{find_from_yields_List}
+use Rattle.refusal.specs.declared.kinds.Name.{Name}
+use Rattle.policy.specs.Views.{named}
+use Rattle.ledger.specs.declared.standing.Standing.{Standing}
+use Rattle.ledger.specs.Standings.{first_of_name, other}
+use Rattle.ledger.proofs.Firsts.{none_named}
 use Rattle.ledger.proofs.scan.first_named.Goals as goal
 
-pub returns-then-is_named : goal.returns-then-is_named
-returns-then-is_named c = record {
-  first = sym (first_here c.args.name c.args.standing.now c.loop-one.one-index _ c.loop-one-test.true (sym c.is_named.ensures ∙ c.if-is_named.true)) ∙ c.loop-one.invariant;
-  absent = tt;
-}
-
-pub loop-one-preserved : goal.loop-one-preserved
-loop-one-preserved c =
-    sym (first_more c.args.name c.args.standing.now c.loop-one.one-index _ c.loop-one-test.true (sym c.is_named.ensures ∙ c.if-is_named.false)) ∙ c.loop-one.invariant
+absent : (n : Name) (xs : List Standing) (o : Option Standing) → o ≡ first_of_name n xs → IfNone o (filter (other n) xs ≡ xs)
+absent n xs None is = none_named n xs (sym is)
+absent n xs (Some s) is = tt
 
 pub returns : goal.returns
 returns c =
-    let xs = c.args.standing.now in
-    let none : None ≡ first_of_name c.args.name xs = sym (first_none c.args.name xs c.loop-one.one-index c.loop-one-test.false) ∙ c.loop-one.invariant in
-    record { first = none; absent = none_named c.args.name xs (sym none) }
+    let first : c.copied.result ≡ first_of_name c.args.name c.args.standing.now =
+    c.copied.ensures ∙ find_from_yields_List (λ s. named c.args.name s.request) _ _ c.find.result c.find.ensures.ran (YieldsList-from_slice c.args.standing.now cc) (λ x b q k. search rules) in
+    record { first = first; absent = absent c.args.name c.args.standing.now c.copied.result first }

@@ -1,0 +1,7 @@
+// A policy over a ledger, for any way in which two requests clash.
+#![tactic(auto)]
+
+pub mod book;
+mod judging;
+pub mod making;
+pub mod policy_of;
