@@ -3,9 +3,8 @@ ghost use Rattle.run.specs.Calls.{Delivers};
 ghost use Rattle.run.specs.Worlds.{conduct, stage};
 
 use super::leaving::take_out;
-use lent::ready::{admit_message, has_arrived};
+use lent::scene::Scene;
 use manager::act::act;
-use message::message::Message;
 use message::row::MessageRow;
 use policy::policy::Policy;
 use refusal::kinds::CallFault;
@@ -23,12 +22,15 @@ pub fn deliver<P: Policy>(
 ) -> Result<(), CallFault>
     ensures answer { Delivers (conduct P.view P.asks P.releases P.advances) (stage run.old vehicles.old mail.old policy.old) (stage run.new vehicles.new mail.new policy.new) message result }
 {
-    admit_message(run, policy, vehicles, mail, message)?;
-    let Some(sent) = Message::of(mail[message as usize - 1]) else {
-        unreachable()
+    let scene = Scene {
+        run,
+        policy,
+        vehicles,
+        mail,
     };
+    let sent = scene.message(message)?;
     let vehicle = sent.vehicle();
-    if !has_arrived(run, vehicle) {
+    if !scene.has_arrived(vehicle) {
         take_out(run, mail, message, None);
         return Ok(());
     }

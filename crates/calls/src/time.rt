@@ -4,7 +4,7 @@ ghost use Rattle.run.specs.Calls.{Ticks};
 ghost use Rattle.run.specs.Worlds.{conduct, stage};
 ghost use Rattle.calls.specs.Parts.{OneOn};
 
-use lent::ready::ready;
+use lent::scene::Scene;
 use message::row::MessageRow;
 use policy::policy::Policy;
 use refusal::kinds::CallFault;
@@ -32,9 +32,15 @@ pub fn tick<P: Policy>(
 ) -> Result<(), CallFault>
     ensures answer { Ticks (conduct P.view P.asks P.releases P.advances) (stage run.old vehicles.old mail.old policy.old) (stage run.new vehicles.new mail.new policy.new) result }
 {
-    ready(run, policy, vehicles, mail)?;
+    let scene = Scene {
+        run,
+        policy,
+        vehicles,
+        mail,
+    };
+    scene.ready()?;
     go_on(run, policy)?;
-    let counted = &mut vehicles[0..run.vehicles];
+    let counted = &mut vehicles[..run.vehicles];
     run.mail = turn_all(run.junction, run.clock, counted, mail, run.mail);
     Ok(())
 }
