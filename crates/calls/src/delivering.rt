@@ -9,6 +9,7 @@ use message::row::MessageRow;
 use policy::policy::Policy;
 use refusal::kinds::CallFault;
 use run::run::Run;
+use vehicle::agent::Reaction;
 use vehicle::rows::VehicleRow;
 
 // The message of that number, from 1, is acted on, and a reply takes its place. A message of no vehicle that has arrived
@@ -35,7 +36,7 @@ pub fn deliver<P: Policy>(
         return Ok(());
     }
     let place = vehicle as usize - 1;
-    let (row, reply) = act(policy, vehicles[place], sent.row);
+    let Reaction { row, reply } = act(policy, vehicles[place], sent.row);
     vehicles[place] = row;
     take_out(run, mail, message, reply);
     Ok(())

@@ -10,6 +10,7 @@ use policy::policy::Policy;
 use refusal::kinds::CallFault;
 use run::run::Run;
 use ticking::turning::turn_all;
+use vehicle::now::Now;
 use vehicle::rows::VehicleRow;
 
 // The policy goes on by one tick, and the run with it; at the clock's end neither does.
@@ -41,6 +42,10 @@ pub fn tick<P: Policy>(
     scene.ready()?;
     go_on(run, policy)?;
     let counted = &mut vehicles[..run.vehicles];
-    run.mail = turn_all(run.junction, run.clock, counted, mail, run.mail);
+    let now = Now {
+        junction: run.junction,
+        clock: run.clock,
+    };
+    run.mail = turn_all(now, counted, mail, run.mail);
     Ok(())
 }

@@ -30,7 +30,7 @@ returns g c =
     let r = c.in_ok-sent.ensures.answer in
     let at = c.has_arrived.ensures.answer.0 c.if-not-has_arrived.false in
     let rest = c.take_out-2.ensures.rest in
-    let o = outcome c.act-reply.result.0 c.act-reply.new.policy c.act-reply.result.1 in
+    let o = outcome c.act-reply.result.row c.act-reply.new.policy c.act-reply.result.reply in
     record {
       answer = brought k s c.args.message _ r _ rest.junction rest.clock rest.vehicles _
           g.met.P.Policy.records g.met.P.Policy.removes o c.take_out-2.ensures.mail
