@@ -7,6 +7,7 @@ use bureau::length_limit::Limit;
 use bureau::one_at_a_time::OneAtATime;
 use grid::junction::Junction;
 use grid::kinds::{Approach, Body, Movement};
+use layers::layer::Layer;
 use policy::policy::Policy;
 use refusal::kinds::{Denial, Reason};
 use reservation::request::Request;

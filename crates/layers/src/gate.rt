@@ -20,7 +20,8 @@ pub trait Gate {
     fn refuses(&self, request: &Request) -> Option<Reason>
         ensures { result ≡ refuses self.now request.now };
 
-    // The layer has refused a request, and the policy below was not asked.
+    // The layer has refused a request, and the policy below was not asked. (No body stands here for a gate that learns
+    // nothing: it was tried, and would have to be proved for what every other gate says of itself.)
     fn note_refusal(&mut self, reason: Reason)
         ensures { self.new ≡ after_refusal self.old reason };
 

@@ -177,11 +177,13 @@ fn other<'a>(keyword: &[u8], words: &mut Words<'a>) -> Option<Command<'a>> {
 // What the keyword and the words after it ask for. A keyword of one kind of line is none of another, so the kinds may
 // be tried in any order.
 fn any_command<'a>(keyword: &[u8], words: &mut Words<'a>) -> Option<Command<'a>> {
-    mail_call(keyword, words)
-        .or_else(|| vehicle_call(keyword, words))
-        .map(Command::Run)
-        .or_else(|| policy_call(keyword, words).map(Command::Ask))
-        .or_else(|| other(keyword, words))
+    if let Some(call) = mail_call(keyword, words).or_else(|| vehicle_call(keyword, words)) {
+        return Some(Command::Run(call));
+    }
+    if let Some(call) = policy_call(keyword, words) {
+        return Some(Command::Ask(call));
+    }
+    other(keyword, words)
 }
 
 impl<'a> Command<'a> {

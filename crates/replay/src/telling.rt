@@ -3,10 +3,11 @@ use super::memory::Memory;
 use super::stop::Stop;
 use grid::kinds::Body;
 use grid::tiles::TileSet;
+use lent::scene::Scene;
 use lines::writing::write;
 use message::message::Message;
 use policy::policy::Policy;
-use readings::reading::{message_at, moment, vehicle_at};
+use readings::reading::moment;
 use run::run::Run;
 use std::alloc::Global;
 use std::fmt;
@@ -108,11 +109,15 @@ impl Telling {
         policy: &P,
         memory: &Memory,
     ) -> Result<Telling, Stop> {
-        let vehicles = memory.vehicles.as_slice();
-        let mail = memory.mail.as_slice();
-        let clock = moment(run, policy, vehicles, mail)?.clock;
-        let records = (1..=1024u32).map_while(|v| vehicle_at(run, policy, vehicles, mail, v).ok());
-        let messages = (1..=256u32).map_while(|i| message_at(run, policy, vehicles, mail, i).ok());
+        let scene = Scene {
+            run,
+            policy,
+            vehicles: memory.vehicles.as_slice(),
+            mail: memory.mail.as_slice(),
+        };
+        let clock = moment(&scene)?.clock;
+        let records = (1..=1024u32).map_while(|v| scene.vehicle(v).ok());
+        let messages = (1..=256u32).map_while(|i| scene.message(i).ok());
         Ok(Telling {
             clock,
             vehicles: records.collect(heap)?,

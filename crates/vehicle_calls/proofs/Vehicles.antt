@@ -61,9 +61,7 @@ module _ {P : Type 0} (c : Conduct P) (s : Stage P) (v : ℕ) (x : Vehicle) (r :
     put f g free sent =
         subst (λ y. Later c.view s (record { vehicles = set (world s).vehicles (v - 1) (f y); mail = (world s).mail ++ g y ∷ []; policy = s.policy })
         (stage t (set s.vehicles (v - 1) (f x.row)) ms s.policy)) is
-        (subst (λ ms. Later c.view s (record { vehicles = set (world s).vehicles (v - 1) (f x.row); mail = (world s).mail ++ g x.row ∷ []; policy = s.policy })
-        (stage t (set s.vehicles (v - 1) (f x.row)) ms s.policy)) (sym sent)
-        (posted c.view s whole agrees j k v at.0 within (f x.row) (g x.row) free n m))
+        (posted c.view s whole agrees j k v at.0 within (f x.row) (g x.row) free n m ms sent)
 
     abbrev after : VehicleRow → Stage P
     after y = stage t (set s.vehicles (v - 1) y) ms s.policy

@@ -8,7 +8,7 @@ use Rattle.calls.proofs.leaving.lose.Goals as goal
 pub returns : goal.returns
 returns g c =
     let s = stage c.args.run.now c.args.vehicles.now c.args.mail.now c.args.policy.now in
-    let r = c.in_ok-admit_message.ensures.answer.by in
+    let r = c.in_ok-message.ensures.answer.by in
     let whole = r.0 in
     let agrees = r.1.0 in
     let at = r.1.1.0 in
