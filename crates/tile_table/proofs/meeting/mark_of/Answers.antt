@@ -1,6 +1,6 @@
 use Rattle.std.proofs.Common.{arith}
 use Rattle.reservation.proofs.Ranges.{range_parts}
-use Rattle.tile_table.proofs.spanning.mark_of.Goals as goal
+use Rattle.tile_table.proofs.meeting.mark_of.Goals as goal
 
 pub overflow_cast-result : goal.overflow_cast-result
 overflow_cast-result c =
