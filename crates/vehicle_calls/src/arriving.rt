@@ -22,6 +22,9 @@ fn is_clear(rows: &[VehicleRow], body: Body, distance: u32) -> bool
     })
 }
 
+// The ten run calls take run, policy and memories one by one: so each says by its types which of them it cannot alter. A
+// struct of four `&mut` does not, and a call would use it up, since the checker has no rule for loans from behind `&mut self`.
+
 // A vehicle arrives at this distance from the stop line: its number, from 1.
 pub fn arrive<P: Policy>(
     run: &mut Run,
