@@ -128,7 +128,7 @@ module _ {S : Type 0} {steps : S → Option Turn → S → Type 0} {s : S} (fs :
                 ap (λ m. get_or m i Vehicle) fields_are ∙ get_or-take (length xs) fs i Vehicle (omega (arith, count)) in
                 let q : get_or (map decimal ns) i [] ≡ get_or ts i [] =
                 ap (λ m. get_or m i []) (sym so.0 ∙ texts_are) ∙ get_or-take (length xs) ts i [] (omega (arith, count)) in
-                subst (λ (q : Field × List ℕ). Good q.0 q.1) (ap (λ a. (a, get_or (map decimal ns) i [])) f ∙ ap (λ b. (get_or fs i Vehicle, b)) q) g;
+                rw (f, q) at g;
           }
 
 -- as many texts as fields behind the keyword
