@@ -25,15 +25,15 @@ impl<C> Book<C> {
         let _ = self.ledger.push(footprint.request, footprint.last_tick());
     }
 
-    // Takes the requests of that name out, and says whether one stood. It stands apart from `release` so that a slip
-    // there is refused at its fact: this one has a proof file.
+    // Takes the requests of that name out, and says whether one stood. Apart from `release`, so that an edit of that
+    // is refused there and not in a proof.
     fn take_out(&mut self, name: Name) -> bool
         ensures { Releases view_of self.old name result self.new }
     {
         self.ledger.remove(name).is_some()
     }
 
-    // Takes out what is over at that clock.
+    // Takes out what is over at that clock. Apart from `move_on`, for the same reason.
     fn expire(&mut self, clock: u32)
         ensures { view_of self.new ≡ with_ledger (view_of self.old) (lasting self.old.junction clock (view_of self.old).ledger) }
     {

@@ -24,7 +24,8 @@ fn tell<P: Policy>(policy: &P, vehicle: u32, row: VehicleRow, message: MessageRo
 }
 
 // The manager's decision by the kind of the message: a number below the last one that was heard is old, that number
-// itself has its answer, and a higher one is judged anew. An answer goes to the vehicle.
+// itself has its answer, and a higher one is judged anew. An answer goes to the vehicle. It stands apart from `act`, whose
+// two clauses on other outcomes are proved at one return and not at nine.
 fn decide<P: Policy>(policy: &mut P, row: VehicleRow, message: MessageRow) -> Reaction
     ensures { Acts (conduct P.view P.asks P.releases P.advances) policy.old row message (outcome result.row policy.new result.reply) }
 {

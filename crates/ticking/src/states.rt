@@ -26,7 +26,8 @@ fn is_over(duration: u32, clock: u32, held: Claim, lag: i32) -> bool
     end + lag as i64 <= clock as i64
 }
 
-// Whether the vehicle has come to its end.
+// Whether the vehicle has come to its end. Here and below a row whose body fits, and no record of a vehicle: to make
+// one, every row would have to be checked at every tick.
 fn is_ending(now: Now, row: &VehicleRow) -> bool
     ensures { fits now.junction.lanes row.now.body ≡ true → Decides result (Ends (duration_of now.junction.lanes row.now.body) now.clock row.now.state) }
 {

@@ -23,11 +23,11 @@ paint_first clock tick vehicle f old none tile t w = ⊎_elim
     (cases_lt t tick)
 
 -- where no cell from the tick on passes, all are painted
-pub paint_last : (clock tick vehicle : ℕ) (f : ℕ → ℕ → Bool) (old new : Marks) → ((tile t : ℕ) → tick ≤ t → f tile t ≡ false)
+pub paint_last : (clock tick vehicle : ℕ) (f : ℕ → ℕ → Bool) (old new : Marks) → ((tile t : ℕ) → tick ≤ t → t < clock + 128 → f tile t ≡ false)
     → Painted clock (before f tick) vehicle old new → Painted clock f vehicle old new
 paint_last clock tick vehicle f old new none so tile t w = so tile t w ∙ ap (λ b. cond b vehicle (mark old tile t)) (⊎_elim
     (λ (lt : t < tick). ap (λ b. b && f tile t) (lt-ltb t tick lt))
-    (λ (le : tick ≤ t). and_left (ltb t tick) (f tile t) (le-ltb t tick le) ∙ sym (none tile t le))
+    (λ (le : tick ≤ t). and_left (ltb t tick) (f tile t) (le-ltb t tick le) ∙ sym (none tile t le w.2))
     (cases_lt t tick))
 
 -- once the cells before the tick are painted, so are those at the tick

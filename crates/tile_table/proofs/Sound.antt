@@ -5,6 +5,7 @@ use Rattle.std.proofs.ByRecursion.{all-has, has_push, has_push_cases, kept_by_pa
 use Rattle.std.proofs.lemmas.Bool.{and_from, and_parts, cases_Bool, cases_eq, cases_lt, cond-true, cond-false, eq-eqb, eqb-true, leb-false, leb-true, ltb-true, ne_eqb, not-false, not_from_false}
 use Rattle.grid.specs.declared.junction.Junction.{Junction}
 use Rattle.refusal.specs.declared.kinds.Name.{Name}
+use Rattle.reservation.specs.declared.footprint.Footprint.{Footprint}
 use Rattle.reservation.specs.declared.request.Request.{Request}
 use Rattle.reservation.specs.Cells.{has, share}
 use Rattle.reservation.specs.Requests.{in_range, last_tick_of, span_end}
@@ -17,12 +18,12 @@ use Rattle.policy.proofs.Layers.{ok_err}
 use Rattle.marks.specs.declared.marks.Marks.{Marks}
 use Rattle.marks.specs.Marked.{mark}
 use Rattle.marks.proofs.Rings.{mark_around}
-use Rattle.ledger.specs.declared.standing.Standing.{Standing}
 use Rattle.ledger.specs.Entries.{entries}
 use Rattle.ledger.specs.Standings.{requests}
 use Rattle.ledger.proofs.Kept.{has_kept_by}
 use Rattle.rivals.specs.Rivals.{CellClash, Rival, Sought}
-use Rattle.tile_table.specs.declared.choice.Choice.TheVariants.{Named, Of}
+use Rattle.rivals.specs.Screening.{Screens}
+use Rattle.rivals.proofs.Screens.{screened_footprint}
 use Rattle.tile_table.specs.declared.table.TileTable.{TileTable}
 use Rattle.tile_table.specs.Holding.{Agree, Ahead, Apart, Ranged}
 use Rattle.tile_table.specs.Painting.{Foreign, Painted, covers}
@@ -47,7 +48,7 @@ timely j clock r e =
     let parts = and_parts (ltb (clock + j.buffer) r.entry) (leb (span_end j r) (clock + 128)) e in
     record { early = ltb-true _ _ parts.0; late = leb-true _ _ parts.1 }
 
-pub sound_of : (s : TileTable) → Sound s.junction s.clock (requests (entries s.ledger)) s.marks
+pub sound_of : (s : TileTable) → Sound s.window.junction s.window.clock (requests (entries s.ledger)) s.marks
 sound_of s = record { ranged = s.ranged; ahead = s.ahead; apart = s.apart; agree = s.agree }
 
 -- a request that nothing stops is in time
@@ -59,17 +60,11 @@ in_time w r (inr (p, inr (q, rest))) = ⊎_elim
     (λ (e : is_in_time w.junction w.clock r ≡ false). absurd (q e))
     (cases_Bool (is_in_time w.junction w.clock r))
 
--- what holds of each holds of fewer, and of one more for which it holds
-pub each_kept : (P : Standing → Type 0) (p : Standing → Bool) (xs ys : List Standing) → ys ≡ filter p xs
-    → ((s : Standing) → Has xs s → P s) → (s : Standing) → Has ys s → P s
-each_kept P p xs ys is all s h = all s (has_kept_by p xs s (subst (λ l. Has l s) is h))
-
-pub each_more : (P : Standing → Type 0) (xs ys : List Standing) (x : Standing) → ys ≡ xs ++ x ∷ []
-    → ((s : Standing) → Has xs s → P s) → P x → (s : Standing) → Has ys s → P s
-each_more P xs ys x is all here s h = ⊎_elim
-    (λ before. all s before)
-    (λ (e : x ≡ s). subst P e here)
-    (has_push_cases xs x s (subst (λ l. Has l s) is h))
+-- so is the request of a footprint that the rows let pass
+pub screened_time : (w : View) (r : Request) (f : Footprint) → Screens w r (Ok f) → is_in_time w.junction w.clock f.request ≡ true
+screened_time w r f screens =
+    let (past, one, same) = screened_footprint w r f screens in
+    subst (λ x. is_in_time w.junction w.clock x ≡ true) (sym same) (in_time w r past)
 
 module _ (j : Junction) (clock : ℕ) (rs : List Request) (m : Marks) (sound : Sound j clock rs m) where
   -- where no mark of r's cells is another vehicle's, nobody is in its way
@@ -84,13 +79,15 @@ module _ (j : Junction) (clock : ℕ) (rs : List Request) (m : Marks) (sound : S
       let is = sound.agree tile t (small, omega arith, omega arith) ∙ given_owner j tile t rs sound.apart x inside cell.2 in
       let some = (range_parts j x (sound.ranged x inside)).vehicle in
       none (
-        tile,
         t,
-        small,
-        cell.3,
-        and_from (not (eqb (mark m tile t) 0)) (not (eqb (mark m tile t) r.vehicle))
-            (not_from_false _ (ne_eqb (mark m tile t) 0 (λ e. omega arith)))
-            (not_from_false _ (ne_eqb (mark m tile t) r.vehicle (λ e. w.0 (sym is ∙ e)))),
+        (
+          tile,
+          small,
+          cell.3,
+          and_from (not (eqb (mark m tile t) 0)) (not (eqb (mark m tile t) r.vehicle))
+              (not_from_false _ (ne_eqb (mark m tile t) 0 (λ e. omega arith)))
+              (not_from_false _ (ne_eqb (mark m tile t) r.vehicle (λ e. w.0 (sym is ∙ e)))),
+        ),
       )
 
   module _ (r : Request) (in-range : in_range j r ≡ true) (time : is_in_time j clock r ≡ true) (alone : Sought (Rival CellClash j r) rs None) where
@@ -140,37 +137,40 @@ module _ (j : Junction) (clock : ℕ) (rs : List Request) (m : Marks) (sound : S
   apart_kept p x y both = sound.apart x y (has_kept_by p rs x both.0, has_kept_by p rs y both.1, both.2)
 
   module _ (n : Name) (mid new : Marks) where
+    abbrev of_vehicle : Request → Bool
+    of_vehicle r = eqb r.vehicle n.vehicle
+
     abbrev rest : List Request
     rest = filter (λ r. not (named n r)) rs
 
     -- the cells of the requests of that name are cleared, and those that the vehicle still has are marked again
-    pub sound_released : Painted clock (covers (Named n) j rs) 0 m mid → Painted clock (covers (Of n.vehicle) j rest) n.vehicle mid new
+    pub sound_released : Painted clock (covers (named n) j rs) 0 m mid → Painted clock (covers of_vehicle j rest) n.vehicle mid new
         → Sound j clock rest new
     sound_released cleared again = record {
       ranged = λ r inside. sound.ranged r (has_kept_by (λ x. not (named n x)) rs r inside);
       ahead = λ r inside. sound.ahead r (has_kept_by (λ x. not (named n x)) rs r inside);
       apart = apart_kept (λ x. not (named n x));
       agree = λ tile t w. again tile t w ∙ ⊎_elim
-          (λ (e : covers (Of n.vehicle) j rest tile t ≡ true).
-          let o = covers_found (Of n.vehicle) j tile t rest e in
-          cond-true _ _ _ e ∙ sym (given_owner j tile t rest (apart_kept (λ x. not (named n x))) o.one o.inside o.holds ∙ eqb-true _ _ o.chosen))
-          (λ (e : covers (Of n.vehicle) j rest tile t ≡ false). cond-false _ _ _ e ∙ cleared tile t w ∙ ⊎_elim
-          (λ (f : covers (Named n) j rs tile t ≡ true).
-          let o = covers_found (Named n) j tile t rs f in
+          (λ (e : covers of_vehicle j rest tile t ≡ true).
+          let o = covers_found of_vehicle j tile t rest e in
+          cond-true _ _ _ e ∙ sym (given_owner j tile t rest (apart_kept (λ x. not (named n x))) o.one o.inside o.holds ∙ eqb-true _ _ o.picked))
+          (λ (e : covers of_vehicle j rest tile t ≡ false). cond-false _ _ _ e ∙ cleared tile t w ∙ ⊎_elim
+          (λ (f : covers (named n) j rs tile t ≡ true).
+          let o = covers_found (named n) j tile t rs f in
           cond-true _ _ _ f ∙ sym (given_none j tile t rest (λ r inside. ⊎_elim
           (λ (h : has j r tile t ≡ true).
           let was = has_kept_by (λ x. not (named n x)) rs r inside in
           let same = sound.apart r o.one (was, o.inside, share_from j r o.one (tile, t, h, o.holds)) in
-          absurd (covers_not (Of n.vehicle) j tile t rest e r inside (eq-eqb _ _ (same ∙ named_vehicle n o.one o.chosen)) h))
+          absurd (covers_not of_vehicle j tile t rest e r inside (eq-eqb _ _ (same ∙ named_vehicle n o.one o.picked)) (sound.ranged r was) h))
           (λ (h : has j r tile t ≡ false). h)
           (cases_Bool (has j r tile t)))))
-          (λ (f : covers (Named n) j rs tile t ≡ false).
+          (λ (f : covers (named n) j rs tile t ≡ false).
           cond-false _ _ _ f ∙ sound.agree tile t w ∙ sym (given_kept j tile t (λ x. not (named n x)) rs (λ r inside gone. ⊎_elim
-          (λ (h : has j r tile t ≡ true). absurd (covers_not (Named n) j tile t rs f r inside (not-false _ gone) h))
+          (λ (h : has j r tile t ≡ true). absurd (covers_not (named n) j tile t rs f r inside (not-false _ gone) (sound.ranged r inside) h))
           (λ (h : has j r tile t ≡ false). h)
           (cases_Bool (has j r tile t)))))
-          (cases_Bool (covers (Named n) j rs tile t)))
-          (cases_Bool (covers (Of n.vehicle) j rest tile t));
+          (cases_Bool (covers (named n) j rs tile t)))
+          (cases_Bool (covers of_vehicle j rest tile t));
     }
 
   -- a tick later, with the marks of the tick that has passed cleared

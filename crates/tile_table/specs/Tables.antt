@@ -1,22 +1,21 @@
 -- What a tile table tells, and what its calls make of it. Assumes nothing.
-use Rattle.std.specs.Prelude.{◌≡◌, ℕ, ◌<◌, Bool, true, false, length, is_some, Some, None, Ok, Err, Option, Result}
-use Rattle.refusal.specs.declared.kinds.CallFault.{CallFault}
+use Rattle.std.specs.Prelude.{◌≡◌, ℕ, ◌<◌, true, length, Some, None, Ok, Err, Option, Result}
 use Rattle.refusal.specs.declared.kinds.Denial.{Denial}
 use Rattle.refusal.specs.declared.kinds.Name.{Name}
 use Rattle.reservation.specs.declared.footprint.Footprint.{Footprint}
 use Rattle.reservation.specs.declared.request.Request.{Request}
 use Rattle.reservation.specs.Requests.{last_tick_of}
 use Rattle.policy.specs.Answers.{Answer, is_in_time}
-use Rattle.policy.specs.Views.{Advanced, View, asked, found, released}
+use Rattle.policy.specs.Views.{View}
 use Rattle.marks.specs.Marked.{mark}
 use Rattle.ledger.specs.declared.standing.Standing.{Standing}
 use Rattle.ledger.specs.Entries.{entries}
-use Rattle.ledger.specs.Standings.{requests}
 use Rattle.rivals.specs.Rivals.{CellClash, Rival, Sought}
+use Rattle.rivals.specs.Screening.{told}
 use Rattle.tile_table.specs.declared.table.TileTable.{TileTable}
 
 abbrev pub view_of : TileTable → View
-view_of s = record { junction = s.junction; clock = s.clock; ledger = requests (entries s.ledger) }
+view_of s = told s.window.junction s.window.clock s.ledger
 
 -- the footprint's request as it stands
 abbrev pub standing_of : Footprint → Standing
@@ -28,28 +27,13 @@ marks_of s = Some (mark s.marks)
 
 -- who is in the way of the request
 abbrev pub RivalOf : TileTable → Request → Option Name → Type 0
-RivalOf s r = Sought (Rival CellClash s.junction r) (requests (entries s.ledger))
-
--- there is no gate; a refusal leaves all as it was
-pub record Asks (s : TileTable) (r : Request) (a : Result (Unit {0}) Denial) (s' : TileTable) : Type 0 where
-  pub answer : Answer CellClash (view_of s) None r a
-  pub after : view_of s' ≡ asked (view_of s) r a
-  pub spares : (d : Denial) → a ≡ Err d → s' ≡ s
-
-pub record Releases (s : TileTable) (n : Name) (a : Bool) (s' : TileTable) : Type 0 where
-  pub answer : a ≡ is_some (found n (view_of s).ledger)
-  pub after : view_of s' ≡ released (view_of s) n
-  pub spares : a ≡ false → s' ≡ s
-
-pub record Advances (s : TileTable) (a : Result (Unit {0}) CallFault) (s' : TileTable) : Type 0 where
-  pub after : Advanced (view_of s) a (view_of s')
-  pub spares : (e : CallFault) → a ≡ Err e → s' ≡ s
+RivalOf s r = Sought (Rival CellClash s.window.junction r) (view_of s).ledger
 
 -- a request that may be written down: of this junction, in time, with room for it, and nobody in its way
 pub record Free (s : TileTable) (f : Footprint) : Type 0 where
-  pub one : f.junction ≡ s.junction
+  pub one : f.junction ≡ s.window.junction
   pub room : length (entries s.ledger) < 64
-  pub time : is_in_time s.junction s.clock f.request ≡ true
+  pub time : is_in_time s.window.junction s.window.clock f.request ≡ true
   pub alone : RivalOf s f.request None
 
 -- the answer to a request before it is written down: the footprint of one that is granted

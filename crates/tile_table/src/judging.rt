@@ -5,18 +5,18 @@ ghost use Rattle.tile_table.specs.Tables.{Judges, RivalOf};
 
 use super::meeting::meets_other;
 use super::table::TileTable;
-use policy::screen::stop_rows;
 use refusal::kinds::{Denial, Name, Reason};
 use reservation::footprint::Footprint;
 use reservation::request::Request;
 use rivals::clashes::ByCell;
 use rivals::rivals::earliest_rival;
+use rivals::screening::screened;
 
 impl TileTable {
     // Whether a cell of the request is another vehicle's. If not, nobody is in its way.
     fn is_met(&self, footprint: &Footprint) -> bool
-        requires one { footprint.now.junction ≡ self.now.junction }
-        requires time { is_in_time self.now.junction self.now.clock footprint.now.request ≡ true }
+        requires one { footprint.now.junction ≡ self.now.window.junction }
+        requires time { is_in_time self.now.window.junction self.now.window.clock footprint.now.request ≡ true }
         ensures { result ≡ false → RivalOf self.now footprint.now.request None }
     {
         meets_other(&self.marks, footprint)
@@ -24,8 +24,8 @@ impl TileTable {
 
     // Who is in the way of the request. The ledger is searched only where a mark of another vehicle is met.
     fn rival(&self, footprint: &Footprint) -> Option<Name>
-        requires one { footprint.now.junction ≡ self.now.junction }
-        requires time { is_in_time self.now.junction self.now.clock footprint.now.request ≡ true }
+        requires one { footprint.now.junction ≡ self.now.window.junction }
+        requires time { is_in_time self.now.window.junction self.now.window.clock footprint.now.request ≡ true }
         ensures { RivalOf self.now footprint.now.request result }
     {
         if !self.is_met(footprint) {
@@ -38,13 +38,12 @@ impl TileTable {
     pub(crate) fn judge(&self, request: &Request) -> Result<Footprint, Denial>
         ensures { Judges self.now request.now result }
     {
-        let standing = self.ledger.find(request.name());
-        if let Err(reason) = stop_rows(self.junction, self.clock, standing, request, None) {
-            return Err(Denial::Because(reason));
-        }
-        let Some(footprint) = Footprint::of(self.junction, request) else {
-            return Err(Denial::Because(Reason::Range));
-        };
+        let footprint = screened(
+            self.window.junction,
+            self.window.clock,
+            &self.ledger,
+            request,
+        )?;
         if let Some(rival) = self.rival(&footprint) {
             return Err(Denial::Clash(rival));
         }

@@ -2,12 +2,11 @@
 #![tactic(auto)]
 
 mod changes;
-mod choice;
 mod judging;
 pub mod making;
 mod meeting;
 mod painting;
 pub mod policy_of;
 pub mod reading;
-mod spanning;
 pub mod table;
+mod window;

@@ -4,6 +4,7 @@ ghost use Rattle.policy.specs.Views.{new_view};
 ghost use Rattle.tile_table.specs.Tables.{view_of};
 
 use super::table::TileTable;
+use super::window::Window;
 use grid::junction::Junction;
 use ledger::ledger::Ledger;
 use marks::marks::Marks;
@@ -16,8 +17,7 @@ impl TileTable {
     {
         let ledger = Ledger::new(heap)?;
         Ok(TileTable {
-            junction,
-            clock: 0,
+            window: Window { junction, clock: 0 },
             ledger,
             marks: Marks::new(),
         })

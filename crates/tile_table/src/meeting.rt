@@ -1,24 +1,31 @@
 // A pass that looks for marks of others.
 ghost use Rattle.std.specs.Prelude.{◌≡◌, Decides};
-ghost use Rattle.reservation.specs.Requests.{first_tick_of, last_tick_of};
-ghost use Rattle.tile_table.specs.Painting.{Foreign};
+ghost use Rattle.tile_table.specs.Painting.{Foreign, ForeignAt};
 
-use super::spanning::{first_tick, mark_of};
 use marks::marks::Marks;
 use reservation::footprint::Footprint;
 
-// Whether some cell of the request, from tick `first` to `last`, has another mark than `vehicle`.
-fn meets_in_span(marks: &Marks, footprint: &Footprint, first: u32, last: u32, vehicle: u16) -> bool
-    requires first { first ≡ first_tick_of footprint.now.junction footprint.now.request }
-    requires last { last ≡ last_tick_of footprint.now.junction footprint.now.request }
+// The mark of the request's cells: a vehicle in range has a number that fits.
+pub(crate) fn mark_of(footprint: &Footprint) -> u16
+    ensures { result ≡ footprint.now.request.vehicle }
+{
+    footprint.request.vehicle as u16
+}
+
+// Whether some cell of the request at the tick has another vehicle's mark than `vehicle`.
+fn meets_at(marks: &Marks, footprint: &Footprint, vehicle: u16, tick: u32) -> bool
+    ensures { Decides result (ForeignAt marks.now footprint.now.junction footprint.now.request vehicle tick) }
+{
+    marks.other_than(tick, footprint.tiles_at(tick), vehicle)
+}
+
+// The same at any tick.
+fn meets(marks: &Marks, footprint: &Footprint, vehicle: u16) -> bool
     ensures { Decides result (Foreign marks.now footprint.now.junction footprint.now.request vehicle) }
 {
-    for tick in first..last + 1 {
-        if marks.other_than(tick, footprint.tiles_at(tick), vehicle) {
-            return true;
-        }
-    }
-    false
+    (footprint.first_tick()..footprint.last_tick() + 1).any(|tick| meets_at(
+        marks, footprint, vehicle, tick,
+    ))
 }
 
 // Whether some cell of the request has another vehicle's mark.
@@ -26,11 +33,5 @@ pub(crate) fn meets_other(marks: &Marks, footprint: &Footprint) -> bool
     ensures { Decides result (Foreign marks.now footprint.now.junction footprint.now.request footprint.now.request.vehicle) }
 {
     let own = mark_of(footprint);
-    meets_in_span(
-        marks,
-        footprint,
-        first_tick(footprint),
-        footprint.last_tick(),
-        own,
-    )
+    meets(marks, footprint, own)
 }

@@ -1,138 +1,87 @@
 // Passes that mark the cells of requests.
-ghost use Rattle.std.specs.Prelude.{◌≡◌, ◌+◌, ◌≤◌, max, true};
+ghost use Rattle.std.specs.Prelude.{◌≡◌, ◌+◌, ◌≤◌, Bool, max, min, ◌==◌};
+ghost use Rattle.reservation.specs.declared.request.Request.{Request};
 ghost use Rattle.reservation.specs.Cells.{has};
-ghost use Rattle.reservation.specs.Requests.{first_tick_of, in_range, last_tick_of};
+ghost use Rattle.reservation.specs.Requests.{first_tick_of, last_tick_of};
+ghost use Rattle.policy.specs.Views.{named};
 ghost use Rattle.ledger.specs.Standings.{requests};
-ghost use Rattle.tile_table.specs.declared.choice.Choice.TheVariants.{Named, Of};
-ghost use Rattle.tile_table.specs.Holding.{Ahead, Ranged};
-ghost use Rattle.tile_table.specs.Painting.{Painted, covers, covers_one, picked};
+ghost use Rattle.tile_table.specs.Painting.{Painted, covers, takes};
 
-use super::choice::Choice;
-use super::spanning::first_tick;
-use grid::junction::Junction;
+use super::window::Window;
 use ledger::standing::Standing;
 use marks::marks::Marks;
 use refusal::kinds::Name;
 use reservation::footprint::Footprint;
 use reservation::request::Request;
 
-// Gives the request's cells from tick `first` to `last` the mark `vehicle`.
-fn paint_span(
-    marks: &mut Marks,
-    clock: u32,
-    footprint: &Footprint,
-    first: u32,
-    last: u32,
-    vehicle: u16,
-)
-    requires first { first ≡ max clock (first_tick_of footprint.now.junction footprint.now.request) }
-    requires last { last ≡ last_tick_of footprint.now.junction footprint.now.request }
-    requires reach { last ≤ clock + 127 }
-    ensures { Painted clock (has footprint.now.junction footprint.now.request) vehicle marks.old marks.new }
-{
-    for tick in first..last + 1 {
-        marks.put(tick, footprint.tiles_at(tick), vehicle);
+impl Window {
+    // The first tick of the request's span that is not past.
+    fn first(&self, footprint: &Footprint) -> u32
+        ensures { result ≡ max self.now.clock (first_tick_of footprint.now.junction footprint.now.request) }
+    {
+        self.clock.max(footprint.first_tick())
     }
-}
 
-// Gives the request's cells from the clock on the mark `vehicle`.
-pub(crate) fn paint(marks: &mut Marks, clock: u32, footprint: &Footprint, vehicle: u16)
-    requires { last_tick_of footprint.now.junction footprint.now.request ≤ clock + 127 }
-    ensures { Painted clock (has footprint.now.junction footprint.now.request) vehicle marks.old marks.new }
-{
-    let first = clock.max(first_tick(footprint));
-    paint_span(
-        marks,
-        clock,
-        footprint,
-        first,
-        footprint.last_tick(),
-        vehicle,
-    );
-}
-
-fn is_picked(choice: Choice, request: &Request) -> bool
-    ensures { result ≡ picked choice request.now }
-{
-    match choice {
-        Choice::Named(name) => request.vehicle == name.vehicle && request.number == name.number,
-        Choice::Of(vehicle) => request.vehicle == vehicle,
+    // The last tick of the request's span, or of the window.
+    fn last(&self, footprint: &Footprint) -> u32
+        ensures { result ≡ min (last_tick_of footprint.now.junction footprint.now.request) (self.now.clock + 127) }
+    {
+        footprint.last_tick().min(self.clock + 127)
     }
-}
 
-// The same as `paint` for a request in range, if it is one of the chosen.
-fn paint_picked(
-    marks: &mut Marks,
-    junction: Junction,
-    clock: u32,
-    request: &Request,
-    choice: Choice,
-    vehicle: u16,
-)
-    requires ranged { in_range junction request.now ≡ true }
-    requires ahead { last_tick_of junction request.now ≤ clock + 127 }
-    ensures { Painted clock (covers_one choice junction request.now) vehicle marks.old marks.new }
-{
-    if !is_picked(choice, request) {
-        return;
+    // Gives the request's cells in the window the mark `vehicle`.
+    pub(crate) fn paint(&self, marks: &mut Marks, footprint: &Footprint, vehicle: u16)
+        ensures { Painted self.now.clock (has footprint.now.junction footprint.now.request) vehicle marks.old marks.new }
+    {
+        for tick in self.first(footprint)..self.last(footprint) + 1 {
+            marks.put(tick, footprint.tiles_at(tick), vehicle);
+        }
     }
-    if let Some(footprint) = Footprint::of(junction, request) {
-        paint(marks, clock, &footprint, vehicle);
+
+    // The same for a request whose cells are not worked out, if it is in range.
+    fn paint_request(&self, marks: &mut Marks, request: &Request, vehicle: u16)
+        ensures { Painted self.now.clock (takes self.now.junction request.now) vehicle marks.old marks.new }
+    {
+        if let Some(footprint) = Footprint::of(self.junction, request) {
+            self.paint(marks, &footprint, vehicle);
+        }
     }
-}
 
-// Gives the cells of all chosen requests the mark `vehicle`.
-fn paint_all(
-    marks: &mut Marks,
-    junction: Junction,
-    clock: u32,
-    standing: &[Standing],
-    choice: Choice,
-    vehicle: u16,
-)
-    requires ranged { Ranged junction (requests standing.now) }
-    requires ahead { Ahead junction clock (requests standing.now) }
-    ensures { Painted clock (covers choice junction (requests standing.now)) vehicle marks.old marks.new }
-{
-    for one in standing {
-        paint_picked(marks, junction, clock, &one.request, choice, vehicle);
+    // The same for all standing requests that are chosen.
+    fn paint_chosen<F: Fn(&Request) -> bool>(
+        &self,
+        marks: &mut Marks,
+        standing: &[Standing],
+        vehicle: u16,
+        is_chosen: F,
+    )
+        requires { F.IsAlwaysCallable is_chosen }
+        ensures { (chosen : Request → Bool) → ((one : _) (b : Bool) → F.post is_chosen one b → b ≡ chosen one.now) → Painted self.now.clock (covers chosen self.now.junction (requests standing.now)) vehicle marks.old marks.new }
+    {
+        for one in standing {
+            if is_chosen(&one.request) {
+                self.paint_request(marks, &one.request, vehicle);
+            }
+        }
     }
-}
 
-// Takes the marks of all requests of that name away.
-pub(crate) fn clear_named(
-    marks: &mut Marks,
-    junction: Junction,
-    clock: u32,
-    standing: &[Standing],
-    name: Name,
-)
-    requires ranged { Ranged junction (requests standing.now) }
-    requires ahead { Ahead junction clock (requests standing.now) }
-    ensures { Painted clock (covers (Named name) junction (requests standing.now)) 0 marks.old marks.new }
-{
-    paint_all(marks, junction, clock, standing, Choice::Named(name), 0);
-}
+    // Takes the marks of all requests of that name away.
+    pub(crate) fn clear_named(&self, marks: &mut Marks, standing: &[Standing], name: Name)
+        ensures { Painted self.now.clock (covers (named name) self.now.junction (requests standing.now)) 0 marks.old marks.new }
+    {
+        self.paint_chosen(marks, standing, 0, |one| one.name() == name);
+    }
 
-// Gives the cells of all requests of the vehicle its mark.
-pub(crate) fn mark_vehicle(
-    marks: &mut Marks,
-    junction: Junction,
-    clock: u32,
-    standing: &[Standing],
-    vehicle: u32,
-)
-    requires vehicle { vehicle ≤ 1024 }
-    requires ranged { Ranged junction (requests standing.now) }
-    requires ahead { Ahead junction clock (requests standing.now) }
-    ensures { Painted clock (covers (Of vehicle) junction (requests standing.now)) vehicle marks.old marks.new }
-{
-    paint_all(
-        marks,
-        junction,
-        clock,
-        standing,
-        Choice::Of(vehicle),
-        vehicle as u16,
-    );
+    // Gives the cells of all requests of the vehicle its mark.
+    pub(crate) fn mark_vehicle(&self, marks: &mut Marks, standing: &[Standing], vehicle: u32)
+        requires { vehicle ≤ 1024 }
+        ensures { Painted self.now.clock (covers (λ r. r.vehicle == vehicle) self.now.junction (requests standing.now)) vehicle marks.old marks.new }
+    {
+        self.paint_chosen(
+            marks,
+            standing,
+            vehicle as u16,
+            |one| one.vehicle == vehicle,
+        );
+    }
 }

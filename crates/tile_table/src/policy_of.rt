@@ -1,7 +1,8 @@
 // The tile table as a policy.
 ghost use Rattle.std.specs.Prelude.{None};
 ghost use Rattle.rivals.specs.Rivals.{CellClash};
-ghost use Rattle.tile_table.specs.Tables.{Advances, Asks, Releases, marks_of, view_of};
+ghost use Rattle.policy.specs.Calls.{Advances, Asks, Releases};
+ghost use Rattle.tile_table.specs.Tables.{marks_of, view_of};
 ghost use Rattle.std.proofs.Common.{sym, ◌∙◌, rules};
 ghost use Rattle.reservation.proofs.Laws.{share_symmetric};
 ghost use Rattle.ledger.proofs.Bounds.{few_requests};
@@ -21,11 +22,11 @@ impl Policy for TileTable {
 
     ghost marks = { marks_of };
 
-    ghost asks = { Asks };
+    ghost asks = { Asks view_of CellClash };
 
-    ghost releases = { Releases };
+    ghost releases = { Releases view_of };
 
-    ghost advances = { Advances };
+    ghost advances = { Advances view_of };
 
     ghost symmetric = { λ j x y e. sym (share_symmetric j x y) ∙ e };
 
@@ -50,21 +51,21 @@ impl Policy for TileTable {
     ghost ends = { Prim.search rules };
 
     fn ask(&mut self, request: &Request) -> Result<(), Denial> {
-        match self.judge(request) {
-            Ok(footprint) => {
-                self.book(&footprint);
-                Ok(())
-            }
-            Err(denial) => Err(denial),
-        }
+        let footprint = self.judge(request)?;
+        self.book(&footprint);
+        Ok(())
     }
 
     fn release(&mut self, name: Name) -> bool {
-        self.take_out(name)
+        if self.ledger.find(name).is_none() {
+            return false;
+        }
+        self.take_out(name);
+        true
     }
 
     fn advance(&mut self) -> Result<(), CallFault> {
-        if self.clock >= 1_000_000 {
+        if self.window.clock >= 1_000_000 {
             return Err(CallFault::ClockEnd);
         }
         self.move_on();
@@ -80,10 +81,10 @@ impl Policy for TileTable {
     }
 
     fn junction(&self) -> Junction {
-        self.junction
+        self.window.junction
     }
 
     fn clock(&self) -> u32 {
-        self.clock
+        self.window.clock
     }
 }

@@ -7,7 +7,8 @@ use Rattle.ledger.specs.Standings.{requests}
 use Rattle.ledger.proofs.Requests.{requests-append}
 use Rattle.tile_table.specs.Painting.{Painted}
 use Rattle.tile_table.specs.Tables.{standing_of, view_of}
-use Rattle.tile_table.proofs.Sound.{Sound, each_more, sound_asked, sound_of}
+use Rattle.ledger.proofs.Each.{each_more}
+use Rattle.tile_table.proofs.Sound.{Sound, sound_asked, sound_of}
 use Rattle.tile_table.proofs.table.TileTable.book.Goals as goal
 use Rattle.tile_table.proofs.table.TileTable.book.Goals.{After-enter}
 
@@ -20,16 +21,15 @@ invariant_of-self c =
     let f = c.args.footprint.now in
     let rs = requests (entries s.ledger) in
     let new = c.enter.new.marks in
-    let painted = subst (λ j. Painted s.clock (has j f.request) f.request.vehicle s.marks new) c.requires.one c.enter.ensures.marks in
+    let painted = subst (λ j. Painted s.window.clock (has j f.request) f.request.vehicle s.marks new) c.requires.one c.enter.ensures.marks in
     let in_range = subst (λ j. in_range j f.request ≡ true) c.requires.one f.ranged in
-    let sound = subst (λ l. Sound s.junction s.clock l new) (sym (more (goal.at.invariant_of-self c).After-enter))
-    (sound_asked s.junction s.clock rs s.marks (sound_of s) f.request in_range c.requires.time c.requires.alone new painted) in
-    let ends : last_tick_of f.junction f.request ≡ last_tick_of s.junction f.request = ap (λ j. last_tick_of j f.request) c.requires.one in
+    let sound = subst (λ l. Sound s.window.junction s.window.clock l new) (sym (more (goal.at.invariant_of-self c).After-enter))
+    (sound_asked s.window.junction s.window.clock rs s.marks (sound_of s) f.request in_range c.requires.time c.requires.alone new painted) in
+    let ends : last_tick_of f.junction f.request ≡ last_tick_of s.window.junction f.request = ap (λ j. last_tick_of j f.request) c.requires.one in
     record {
-      early = s.early;
       ranged = sound.ranged;
       ending =
-          each_more (λ x. x.last_tick ≡ last_tick_of s.junction x.request) (entries s.ledger) (entries c.enter.new.ledger) (standing_of f)
+          each_more (λ x. x.last_tick ≡ last_tick_of s.window.junction x.request) (entries s.ledger) (entries c.enter.new.ledger) (standing_of f)
           c.enter.ensures.entries s.ending ends;
       ahead = sound.ahead;
       apart = sound.apart;

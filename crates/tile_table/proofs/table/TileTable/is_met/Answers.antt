@@ -10,5 +10,5 @@ pub returns : goal.returns
 returns c none =
     let s = c.args.self.now in
     let f = c.args.footprint.now in
-    nobody s.junction s.clock (requests (entries s.ledger)) s.marks (sound_of s) f.request c.requires.time
+    nobody s.window.junction s.window.clock (requests (entries s.ledger)) s.marks (sound_of s) f.request c.requires.time
     (λ w. both_ways _ none (c.meets_other.ensures.1 (subst (λ j. Foreign s.marks j f.request f.request.vehicle) (sym c.requires.one) w)))
