@@ -60,12 +60,19 @@ impl<P: Policy> Scene<'_, P> {
         Ok(())
     }
 
+    // Whether there is a message of that number, from 1.
+    fn is_under_way(&self, message: u32) -> bool
+        ensures { Decides result ((1 ≤ message) × (message ≤ self.now.run.now.mail)) }
+    {
+        (1..=self.run.mail).contains(&(message as usize))
+    }
+
     // The message of that number, from 1, if a call on it may begin.
     pub fn message(&self, message: u32) -> Result<Message, CallFault>
         ensures answer { Ruled (of_message P.view (seen self.now) message) (MessageAt (seen self.now) message) (Unit {0}) result }
     {
         self.ready()?;
-        if message < 1 || message as usize > self.run.mail {
+        if !self.is_under_way(message) {
             return Err(CallFault::NoMessage);
         }
         Ok(Message {
@@ -77,7 +84,7 @@ impl<P: Policy> Scene<'_, P> {
     pub fn has_arrived(&self, vehicle: u32) -> bool
         ensures answer { Decides result ((1 ≤ vehicle) × (vehicle ≤ self.now.run.now.vehicles)) }
     {
-        vehicle >= 1 && vehicle as usize <= self.run.vehicles
+        (1..=self.run.vehicles).contains(&(vehicle as usize))
     }
 
     // The record of the vehicle of that number, from 1, if a call on it may begin.

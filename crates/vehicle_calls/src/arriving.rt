@@ -1,10 +1,11 @@
 // A vehicle arrives.
-ghost use Rattle.std.specs.Prelude.{◌≤◌, IfSome, Decides};
-ghost use Rattle.grid.specs.Bodies.{lane_number_of};
+ghost use Rattle.std.specs.Prelude.{◌≡◌, ◌≤◌, true, IfSome, Decides};
+ghost use Rattle.grid.specs.Bodies.{fits, lane_number_of};
 ghost use Rattle.run.specs.Calls.{Arrives};
 ghost use Rattle.run.specs.Worlds.{conduct, last_of_lane, place_behind_of, stage};
 
 use super::lanes::last_in;
+use grid::junction::Junction;
 use grid::kinds::Body;
 use lent::scene::Scene;
 use message::row::MessageRow;
@@ -12,6 +13,13 @@ use policy::policy::Policy;
 use refusal::kinds::CallFault;
 use run::run::Run;
 use vehicle::rows::{State, VehicleRow};
+
+// Whether the vehicle fits the junction, and comes into sight at this distance from the line.
+fn fits_approach(junction: Junction, body: Body, distance: u32) -> bool
+    ensures { Decides result ((fits junction.lanes body ≡ true) × (1 ≤ distance) × (distance ≤ 2000)) }
+{
+    body.fits(junction) && (1..=2000).contains(&distance)
+}
 
 // Whether a vehicle at this distance from the line stands clear of the last one in its lane, by two units at least.
 fn is_clear(rows: &[VehicleRow], body: Body, distance: u32) -> bool
@@ -43,7 +51,7 @@ pub fn arrive<P: Policy>(
         mail,
     };
     scene.ready()?;
-    if !body.fits(run.junction) || distance < 1 || distance > 2000 {
+    if !fits_approach(run.junction, body, distance) {
         return Err(CallFault::Arrival);
     }
     if run.vehicles >= vehicles.len() {

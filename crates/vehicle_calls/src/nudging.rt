@@ -23,7 +23,7 @@ fn is_within(junction: Junction, lag: i64) -> bool
     ensures { result ≡ good_lag junction.buffer lag }
 {
     let slack = junction.buffer as i64;
-    (lag >= -slack) & (lag <= slack)
+    (-slack..=slack).contains(&lag)
 }
 
 // The lag later by so many ticks, if that is within the buffer.

@@ -1,4 +1,4 @@
-use Rattle.std.proofs.Common.{sym, refl, ◌∙◌, arith}
+use Rattle.std.proofs.Common.{refl}
 use Rattle.run.specs.Calls.{arriving}
 use Rattle.run.specs.Worlds.{stage}
 use Rattle.lent.proofs.Later.{joined}
@@ -15,7 +15,7 @@ returns g c =
           (
             r.1.0,
             (
-              (sym c.fits.ensures.answer ∙ c.if-not-fits.false, omega arith, omega arith),
+              c.fits_approach.ensures.0 c.if-not-fits_approach.false,
               (
                 c.if-run-vehicles.false,
                 (
