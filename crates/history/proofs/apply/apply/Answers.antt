@@ -2,8 +2,14 @@ use Rattle.std.proofs.Common.{◌≡◌, w32, SFits, to_z, of_z, rules}
 use Rattle.std.proofs.lemmas.Int.{to_z-of_z}
 use Rattle.history.proofs.apply.apply.Goals as goal
 
+pub returns-in-Arrive : goal.returns-in-Arrive
+returns-in-Arrive g c = record { made = rw c.in-Arrive.is (c.arrive.result, c.arrive.ensures.answer, search rules) }
+
 pub returns-in-Ask : goal.returns-in-Ask
 returns-in-Ask g c = record { made = rw c.in-Ask.is (c.ask.result, c.ask.ensures.answer, search rules) }
+
+pub returns-in-Change : goal.returns-in-Change
+returns-in-Change g c = record { made = rw c.in-Change.is (c.change.result, c.change.ensures.answer, search rules) }
 
 -- a signed argument comes back from its bits
 pub returns-in-Nudge : goal.returns-in-Nudge
