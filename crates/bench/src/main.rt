@@ -6,7 +6,7 @@ mod dice;
 mod timing;
 mod traffic;
 
-use anyhow::anyhow;
+use anyhow::Context;
 use dice::Dice;
 use grid::junction::Junction;
 use policy::policy::Policy;
@@ -18,9 +18,7 @@ use traffic::{fill, request};
 
 // A table on which 64 stand, the soonest entering at the tick `nearest`, and what stands there.
 fn full_table(rt: &HostRuntime, nearest: u32) -> anyhow::Result<(TileTable, Vec<Request>)> {
-    let Ok(junction) = Junction::new(2, 4) else {
-        return Err(anyhow!("no such junction"));
-    };
+    let junction = Junction::new(2, 4).ok().context("no such junction")?;
     let mut table = TileTable::new(rt.alloc(), junction)?;
     let mut standing = Vec::new(rt.alloc());
     fill(&mut table, nearest, &mut standing)?;
@@ -28,46 +26,30 @@ fn full_table(rt: &HostRuntime, nearest: u32) -> anyhow::Result<(TileTable, Vec<
 }
 
 // Asks for all, and says how many were granted.
-fn ask_all(table: &mut TileTable, requests: &[Request]) -> u32 {
-    let mut granted: u32 = 0;
-    for one in requests {
-        if table.ask(one).is_ok() {
-            granted = granted.saturating_add(1);
-        }
-    }
-    granted
+fn ask_all(table: &mut TileTable, requests: &[Request]) -> usize {
+    requests.iter().filter(|one| table.ask(one).is_ok()).count()
 }
 
 // Releases all, and says how many stood.
-fn release_all(table: &mut TileTable, requests: &[Request]) -> u32 {
-    let mut released: u32 = 0;
-    for one in requests {
-        if table.release(one.name()) {
-            released = released.saturating_add(1);
-        }
-    }
-    released
+fn release_all(table: &mut TileTable, requests: &[Request]) -> usize {
+    requests
+        .iter()
+        .filter(|one| table.release(one.name()))
+        .count()
 }
 
-fn advance_often(table: &mut TileTable, times: u32) -> u32 {
-    let mut passed: u32 = 0;
-    for _ in 0..times {
-        if table.advance().is_ok() {
-            passed = passed.saturating_add(1);
-        }
-    }
-    passed
+fn advance_often(table: &mut TileTable, times: u32) -> usize {
+    (0..times).filter(|_| table.advance().is_ok()).count()
 }
 
 // Requests of other vehicles, which come from everywhere and find the table full.
 fn strangers(rt: &HostRuntime) -> anyhow::Result<Vec<Request>> {
     let mut dice = Dice::new();
-    let mut requests = Vec::new(rt.alloc());
-    for _ in 0..4096 {
+    let requests = (0..4096).map(|_| {
         let vehicle = 100 + dice.roll(900);
-        requests.push(request(vehicle, 1, 5 + dice.roll(100)))?;
-    }
-    Ok(requests)
+        request(vehicle, 1, 5 + dice.roll(100))
+    });
+    Ok(requests.collect(rt.alloc())?)
 }
 
 // Asks that are refused, nearly all for a clash.
@@ -80,7 +62,7 @@ fn time_refusals(rt: &HostRuntime) -> anyhow::Result<()> {
     for _ in 0..50u32 {
         let start = Instant::now(rt)?;
         let granted = ask_all(&mut table, requests.as_slice());
-        spent.add(rt, start, 4096u32.saturating_sub(granted))?;
+        spent.add(rt, start, requests.len().saturating_sub(granted))?;
     }
     spent.report(rt, "ask that are refused")
 }

@@ -4,7 +4,7 @@ use std::time::Instant;
 #[derive(Clone, Copy)]
 pub(crate) struct Spent {
     nanos: u128,
-    calls: u32,
+    calls: usize,
 }
 
 impl Spent {
@@ -17,7 +17,7 @@ impl Spent {
         &mut self,
         rt: &HostRuntime,
         start: Instant,
-        calls: u32,
+        calls: usize,
     ) -> anyhow::Result<()> {
         let nanos = start.elapsed(rt)?.as_nanos();
         self.nanos = self.nanos.saturating_add(nanos);

@@ -5,25 +5,26 @@ use policy::policy::Policy;
 use reservation::request::Request;
 use std::alloc::AllocError;
 
-fn approach(number: u32) -> Approach {
-    match number % 4 {
-        0 => Approach::North,
-        1 => Approach::East,
-        2 => Approach::South,
-        _ => Approach::West,
-    }
-}
+const APPROACHES: [Approach; 4] = [
+    Approach::North,
+    Approach::East,
+    Approach::South,
+    Approach::West,
+];
+
+// The ways across a junction with two lanes to an approach, each with its lane.
+const WAYS: [(Movement, u32); 4] = [
+    (Movement::Left, 0),
+    (Movement::Through, 0),
+    (Movement::Through, 1),
+    (Movement::Right, 1),
+];
 
 // A body of 4 to 32 units that fits a junction with two lanes to an approach, always the same for a vehicle.
 fn body_of(vehicle: u32) -> Body {
-    let (movement, lane) = match vehicle / 4 % 4 {
-        0 => (Movement::Left, 0),
-        1 => (Movement::Through, 0),
-        2 => (Movement::Through, 1),
-        _ => (Movement::Right, 1),
-    };
+    let (movement, lane) = WAYS[vehicle as usize / 4 % 4];
     Body {
-        approach: approach(vehicle),
+        approach: APPROACHES[vehicle as usize % 4],
         movement,
         lane,
         length: 4 + vehicle % 29,

@@ -25,14 +25,15 @@ impl<C> Book<C> {
         let _ = self.ledger.push(footprint.request, footprint.last_tick());
     }
 
-    // Takes a standing request out.
-    fn take_out(&mut self, name: Name)
-        ensures { view_of self.new ≡ released (view_of self.old) name }
+    // Takes the requests of that name out, and says whether one stood. Apart from `release`, so that an edit of that
+    // is refused there and not in a proof.
+    fn take_out(&mut self, name: Name) -> bool
+        ensures { Releases view_of self.old name result self.new }
     {
-        let _ = self.ledger.remove(name);
+        self.ledger.remove(name).is_some()
     }
 
-    // Takes out what is over at that clock.
+    // Takes out what is over at that clock. Apart from `move_on`, for the same reason.
     fn expire(&mut self, clock: u32)
         ensures { view_of self.new ≡ with_ledger (view_of self.old) (lasting self.old.junction clock (view_of self.old).ledger) }
     {
@@ -93,11 +94,7 @@ impl<C: Clashes> Policy for Book<C> {
     }
 
     fn release(&mut self, name: Name) -> bool {
-        if self.ledger.find(name).is_none() {
-            return false;
-        }
-        self.take_out(name);
-        true
+        self.take_out(name)
     }
 
     fn advance(&mut self) -> Result<(), CallFault> {

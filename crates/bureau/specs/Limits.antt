@@ -1,7 +1,5 @@
 -- The gate of a limit on length, and how it counts whom it turns away. Assumes nothing.
-use Rattle.std.specs.Prelude.{◌+◌, ◌-◌, ◌^◌, min, Bool, false, cond, Some, None, Ok, Err, Option, Result, ◌==◌, nat_lt}
-use Rattle.refusal.specs.declared.kinds.Denial.{Denial}
-use Rattle.refusal.specs.declared.kinds.Denial.TheVariants.{Because, Clash}
+use Rattle.std.specs.Prelude.{◌+◌, ◌-◌, ◌^◌, min, cond, Some, None, Option, ◌==◌, nat_lt}
 use Rattle.refusal.specs.declared.kinds.Reason.{Reason}
 use Rattle.refusal.specs.declared.kinds.Reason.TheVariants.{Free30}
 use Rattle.refusal.specs.Numbers.{reason_number}
@@ -12,12 +10,6 @@ use Rattle.bureau.specs.declared.length_limit.Limit.{Limit}
 abbrev pub length_gate : Limit → Request → Option Reason
 length_gate m r = cond (nat_lt m.longest r.body.length) (Some Free30) None
 
--- the refusal is the limit's own
-abbrev pub own_refusal : Result (Unit {0}) Denial → Bool
-own_refusal (Ok _) = false
-own_refusal (Err (Because g)) = reason_number g == 30
-own_refusal (Err (Clash n)) = false
-
 -- the limit after the layer has refused so: one refusal more where it is its own, up to the largest number
-abbrev pub counted : Limit → Result (Unit {0}) Denial → Limit
-counted m a = record { longest = m.longest; refused = cond (own_refusal a) (min (m.refused + 1) (2 ^ 32 - 1)) m.refused }
+abbrev pub counted : Limit → Reason → Limit
+counted m g = record { longest = m.longest; refused = cond (reason_number g == 30) (min (m.refused + 1) (2 ^ 32 - 1)) m.refused }

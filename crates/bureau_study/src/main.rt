@@ -2,11 +2,12 @@
 // the bureau's own policy and to the tile table, each below the bureau's limit on length.
 #![tactic(auto)]
 
-use anyhow::anyhow;
-use bureau::length_limit::LengthLimit;
+use anyhow::Context;
+use bureau::length_limit::Limit;
 use bureau::one_at_a_time::OneAtATime;
 use grid::junction::Junction;
 use grid::kinds::{Approach, Body, Movement};
+use layers::layer::Layer;
 use policy::policy::Policy;
 use refusal::kinds::{Denial, Reason};
 use reservation::request::Request;
@@ -49,7 +50,7 @@ fn say(rt: &impl Print, who: &str, answer: Result<(), Denial>) -> anyhow::Result
 
 fn study<P: Policy + Drop>(rt: &impl Print, kind: &str, below: P) -> anyhow::Result<()> {
     println!(rt; "{kind}, for vehicles of up to 24 units:")?;
-    let mut policy = LengthLimit::over(24, below);
+    let mut policy = Layer::new(Limit::new(24), below);
     let car = right_turn(1, Approach::South, 10, 3);
     say(rt, "car 1 from the south at tick 3", policy.ask(&car))?;
     let car = right_turn(2, Approach::North, 10, 3);
@@ -62,15 +63,15 @@ fn study<P: Policy + Drop>(rt: &impl Print, kind: &str, below: P) -> anyhow::Res
         "road train 4 from the west at tick 40",
         policy.ask(&train),
     )?;
-    let count = policy.turned_away();
+    let count = policy.own.turned_away();
     println!(rt; "  turned away for their length: {count}")?;
     Ok(())
 }
 
 fn run(rt: &impl Print, heap: Global) -> anyhow::Result<()> {
-    let Ok(junction) = Junction::new(1, 1) else {
-        return Err(anyhow!("there is no such junction"));
-    };
+    let junction = Junction::new(1, 1)
+        .ok()
+        .context("there is no such junction")?;
     study(rt, "one at a time", OneAtATime::new(heap, junction)?)?;
     study(rt, "tile table", TileTable::new(heap, junction)?)
 }

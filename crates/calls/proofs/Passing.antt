@@ -18,12 +18,12 @@ module _ {P : Type 0} (c : Conduct P) (s : Stage P) (h : Whole s.run s.vehicles 
   fit : Fit s.run.junction (world s).vehicles s.mail s.run.mail
   fit = record { rows = h.rows; few = omega (arith, vehicles_long s h, h.vehicles, h.vehicle_count); within = h.mail_count }
 
-  -- the rows that a run counts, as a slice from 0 on is read
+  -- the rows that a run counts
   abbrev front : Run → List VehicleRow
-  front q = take (q.vehicles - 0) s.vehicles
+  front q = take q.vehicles s.vehicles
 
   -- what is said of the run once it went on, in terms of the run before
-  at_run : (q : Run) → OneOn s.run q → q.vehicles - 0 ≡ s.run.vehicles → (F : Junction → ℕ → List VehicleRow → ℕ → Type 0)
+  at_run : (q : Run) → OneOn s.run q → q.vehicles ≡ s.run.vehicles → (F : Junction → ℕ → List VehicleRow → ℕ → Type 0)
       → F q.junction q.clock (front q) q.mail → F s.run.junction (s.run.clock + 1) (world s).vehicles s.run.mail
   at_run q on all F x =
       subst (λ j. F j (s.run.clock + 1) (world s).vehicles s.run.mail) on.junction
@@ -39,11 +39,10 @@ module _ {P : Type 0} (c : Conduct P) (s : Stage P) (h : Whole s.run s.vehicles 
 
   pub passed : (p : P) → c.advances s.policy (Ok tt) p → (q t : Run) → OneOn s.run q → ButMail q t
       → (rows vs : List VehicleRow) (ms : List MessageRow) → (Fit q.junction (front q) s.mail q.mail → TurnedAll q.junction q.clock (front q) rows s.mail ms q.mail t.mail)
-      → vs ≡ rows ++ drop (q.vehicles - 0) s.vehicles → Ticks c s (stage t vs ms p) (Ok tt)
+      → vs ≡ rows ++ drop q.vehicles s.vehicles → Ticks c s (stage t vs ms p) (Ok tt)
   passed p adv q t on rest rows vs ms turn is =
-      let all : q.vehicles - 0 ≡ s.run.vehicles = omega (arith, on.vehicles) in
       let turned : TurnedAll s.run.junction (s.run.clock + 1) (world s).vehicles rows s.mail ms s.run.mail t.mail =
-      at_run q on all (λ j clock vs n. Fit j vs s.mail n → TurnedAll j clock vs rows s.mail ms n t.mail) turn fit in
+      at_run q on on.vehicles (λ j clock vs n. Fit j vs s.mail n → TurnedAll j clock vs rows s.mail ms n t.mail) turn fit in
       let later = passes s.policy (Ok tt) p adv in
       let sent = take (length s.mail - s.run.mail) (dones 1 (world s).vehicles rows) in
       let new : World P = record { vehicles = rows; mail = (world s).mail ++ sent; policy = p } in
@@ -71,7 +70,7 @@ module _ {P : Type 0} (c : Conduct P) (s : Stage P) (h : Whole s.run s.vehicles 
                     vehicles_are = rest.vehicles ∙ on.vehicles ∙ sym long;
                     mail_are = turned.mail.counted;
                   };
-                  vehicles = is ∙ ap (λ k. rows ++ drop k s.vehicles) (all ∙ sym long);
+                  vehicles = is ∙ ap (λ k. rows ++ drop k s.vehicles) (on.vehicles ∙ sym long);
                   mail = turned.mail.memory ∙ ap (λ k. ((world s).mail ++ sent) ++ drop k s.mail) turned.mail.counted;
                   policy = refl;
                 },

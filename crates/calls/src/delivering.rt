@@ -3,13 +3,13 @@ ghost use Rattle.run.specs.Calls.{Delivers};
 ghost use Rattle.run.specs.Worlds.{conduct, stage};
 
 use super::leaving::take_out;
-use lent::ready::{admit_message, has_arrived};
+use lent::scene::Scene;
 use manager::act::act;
-use message::message::Message;
 use message::row::MessageRow;
 use policy::policy::Policy;
 use refusal::kinds::CallFault;
 use run::run::Run;
+use vehicle::agent::Reaction;
 use vehicle::rows::VehicleRow;
 
 // The message of that number, from 1, is acted on, and a reply takes its place. A message of no vehicle that has arrived
@@ -23,17 +23,20 @@ pub fn deliver<P: Policy>(
 ) -> Result<(), CallFault>
     ensures answer { Delivers (conduct P.view P.asks P.releases P.advances) (stage run.old vehicles.old mail.old policy.old) (stage run.new vehicles.new mail.new policy.new) message result }
 {
-    admit_message(run, policy, vehicles, mail, message)?;
-    let Some(sent) = Message::of(mail[message as usize - 1]) else {
-        unreachable()
+    let scene = Scene {
+        run,
+        policy,
+        vehicles,
+        mail,
     };
+    let sent = scene.message(message)?;
     let vehicle = sent.vehicle();
-    if !has_arrived(run, vehicle) {
+    if !scene.has_arrived(vehicle) {
         take_out(run, mail, message, None);
         return Ok(());
     }
     let place = vehicle as usize - 1;
-    let (row, reply) = act(policy, vehicles[place], sent.row);
+    let Reaction { row, reply } = act(policy, vehicles[place], sent.row);
     vehicles[place] = row;
     take_out(run, mail, message, reply);
     Ok(())

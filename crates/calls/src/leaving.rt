@@ -5,7 +5,7 @@ ghost use Rattle.run.specs.Worlds.{conduct, stage};
 ghost use Rattle.calls.specs.Parts.{ButMail};
 
 use lent::mail::settle;
-use lent::ready::admit_message;
+use lent::scene::Scene;
 use message::row::MessageRow;
 use policy::policy::Policy;
 use refusal::kinds::CallFault;
@@ -36,7 +36,13 @@ pub fn lose<P: Policy>(
 ) -> Result<(), CallFault>
     ensures answer { Loses (conduct P.view P.asks P.releases P.advances) (stage run.old vehicles.now mail.old policy.now) (stage run.new vehicles.now mail.new policy.now) message result }
 {
-    admit_message(run, policy, vehicles, mail, message)?;
+    let scene = Scene {
+        run,
+        policy,
+        vehicles,
+        mail,
+    };
+    scene.message(message)?;
     take_out(run, mail, message, None);
     Ok(())
 }

@@ -11,10 +11,7 @@ use vehicle::rows::VehicleRow;
 fn is_empty<P: Policy>(policy: &P) -> bool
     ensures { Decides result ((P.view policy.now).ledger ≡ []) }
 {
-    match policy.at(1) {
-        Some(_) => false,
-        None => true,
-    }
+    policy.at(1).is_none()
 }
 
 // Whether the policy is as it was made: at clock 0, with no standing request.

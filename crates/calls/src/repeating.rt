@@ -2,7 +2,8 @@
 ghost use Rattle.run.specs.Calls.{Repeats};
 ghost use Rattle.run.specs.Worlds.{conduct, stage};
 
-use lent::ready::admit_message;
+use lent::mail::post;
+use lent::scene::Scene;
 use message::row::MessageRow;
 use policy::policy::Policy;
 use refusal::kinds::CallFault;
@@ -19,11 +20,13 @@ pub fn repeat<P: Policy>(
 ) -> Result<(), CallFault>
     ensures answer { Repeats (conduct P.view P.asks P.releases P.advances) (stage run.old vehicles.now mail.old policy.now) (stage run.new vehicles.now mail.new policy.now) message result }
 {
-    admit_message(run, policy, vehicles, mail, message)?;
-    if run.mail >= mail.len() {
-        return Err(CallFault::MailFull);
-    }
-    mail[run.mail] = mail[message as usize - 1];
-    run.mail += 1;
+    let scene = Scene {
+        run,
+        policy,
+        vehicles,
+        mail,
+    };
+    let sent = scene.message(message)?;
+    run.mail = post(mail, run.mail, sent.row)?;
     Ok(())
 }

@@ -4,12 +4,13 @@ ghost use Rattle.run.specs.Calls.{Ticks};
 ghost use Rattle.run.specs.Worlds.{conduct, stage};
 ghost use Rattle.calls.specs.Parts.{OneOn};
 
-use lent::ready::ready;
+use lent::scene::Scene;
 use message::row::MessageRow;
 use policy::policy::Policy;
 use refusal::kinds::CallFault;
 use run::run::Run;
 use ticking::turning::turn_all;
+use vehicle::now::Now;
 use vehicle::rows::VehicleRow;
 
 // The policy goes on by one tick, and the run with it; at the clock's end neither does.
@@ -32,9 +33,19 @@ pub fn tick<P: Policy>(
 ) -> Result<(), CallFault>
     ensures answer { Ticks (conduct P.view P.asks P.releases P.advances) (stage run.old vehicles.old mail.old policy.old) (stage run.new vehicles.new mail.new policy.new) result }
 {
-    ready(run, policy, vehicles, mail)?;
+    let scene = Scene {
+        run,
+        policy,
+        vehicles,
+        mail,
+    };
+    scene.ready()?;
     go_on(run, policy)?;
-    let counted = &mut vehicles[0..run.vehicles];
-    run.mail = turn_all(run.junction, run.clock, counted, mail, run.mail);
+    let counted = &mut vehicles[..run.vehicles];
+    let now = Now {
+        junction: run.junction,
+        clock: run.clock,
+    };
+    run.mail = turn_all(now, counted, mail, run.mail);
     Ok(())
 }

@@ -1,9 +1,9 @@
 -- Cutting a text at its commas. Assumes nothing.
 use Rattle.std.proofs.Common.{◌≡◌, ℕ, zero, suc, ◌+◌, ◌<◌, ◌≤◌, true, false, cond, not, List, [], ◌∷◌, length, get_or, take, refl, ap, ◌∙◌, one-add, arith}
-use Rattle.std.specs.List.{All, count_by, onto_first, sum_by}
+use Rattle.std.specs.List.{All, AllByRecursion, count_by, list_all, onto_first, sum_by}
 use Rattle.std.proofs.lemmas.List.{length-append}
-use Rattle.std.proofs.lemmas.List.Elements.{All-head, All-tail}
-use Rattle.std.proofs.lemmas.List.Sums.{sum_by-cons, sum_by-take-le}
+use Rattle.std.proofs.lemmas.Bool.{not-true}
+use Rattle.std.proofs.lemmas.List.Sums.{AllPass-from_list_all, sum_by-cons, sum_by-take-le}
 use Rattle.std.proofs.lemmas.List.Splits.{join_with_byte-slice_split, length-slice_split, slice_split_at, slice_split_none}
 use Rattle.fields.specs.Texts.{begins, comma, first_length, join, split}
 
@@ -17,15 +17,17 @@ join_split bs = join_with_byte-slice_split 44 bs
 
 -- a field: no byte of it is a comma
 abbrev pub Whole : List ℕ → Type 0
-Whole f = All (λ b. comma b ≡ false) f
+Whole f = list_all (λ b. not (comma b)) f ≡ true
+
+no_comma : (f : List ℕ) → Whole f → All (λ b. comma b ≡ false) f
+no_comma f w = let passes = AllPass-from_list_all (λ b. not (comma b)) f w in λ k d h. not-true _ (passes k d h)
 
 -- a text that is made of fields is cut into them
-pub split_join : (fs : List (List ℕ)) → 0 < length fs → All Whole fs → split (join fs) ≡ fs
+pub split_join : (fs : List (List ℕ)) → 0 < length fs → AllByRecursion Whole fs → split (join fs) ≡ fs
 split_join [] h w = absurd (omega arith)
-split_join (f ∷ []) h w = slice_split_none comma f (All-head Whole f [] w)
+split_join (f ∷ []) h w = slice_split_none comma f (no_comma f w.0)
 split_join (f ∷ g ∷ fs) h w =
-    slice_split_at comma f 44 (join (g ∷ fs)) (All-head Whole f (g ∷ fs) w) refl
-    ∙ ap (λ l. f ∷ l) (split_join (g ∷ fs) (omega arith) (All-tail Whole f (g ∷ fs) w))
+    slice_split_at comma f 44 (join (g ∷ fs)) (no_comma f w.0) refl ∙ ap (λ l. f ∷ l) (split_join (g ∷ fs) (omega arith) w.1)
 
 -- the bytes before the first comma are the first field
 split_first : (bs : List ℕ) → (rest : List (List ℕ)) × (split bs ≡ take (first_length bs) bs ∷ rest)

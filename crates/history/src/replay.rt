@@ -32,8 +32,8 @@ fn make_all<P: Policy>(
     }
 }
 
-// Makes every call of a further list, and answers what each answered. Where the run was opened and only run calls were
-// made on it since, what has to hold holds again.
+// Makes every call of a further list, and answers what each answered; without memory for the answers it makes none. Where
+// the run was opened and only run calls were made on it since, what has to hold holds again.
 pub fn go_on<P: Policy>(
     heap: Global,
     run: &mut Run,

@@ -1,15 +1,13 @@
 -- The stage that an accepted call leaves. Assumes nothing.
 use Rattle.std.proofs.Common.{◌≡◌, ℕ, ◌+◌, ◌-◌, ◌<◌, ◌≤◌, List, [], ◌∷◌, ◌++◌, length, get_or, drop, set, Option, sym, refl, ap, ◌∙◌, arith}
-use Rattle.std.proofs.ByRecursion.{All-get_or}
 use Rattle.std.proofs.lemmas.List.{get_or_default, get_or-take, length_push, length-set, length-take-le}
 use Rattle.message.specs.declared.row.MessageRow.{MessageRow}
 use Rattle.policy.specs.Views.{View}
 use Rattle.vehicle.specs.declared.rows.VehicleRow.{VehicleRow}
-use Rattle.vehicle.specs.Records.{Good}
 use Rattle.run.specs.declared.run.Run.{Run}
 use Rattle.run.specs.Calls.{Agrees, Whole}
 use Rattle.run.specs.Manager.{replied}
-use Rattle.run.specs.Worlds.{Arrived, Counts, Later, Stage, World, blank, message_of, no_mail, row_of, stage, world}
+use Rattle.run.specs.Worlds.{Arrived, Counts, Later, Stage, World, blank, row_of, stage, world}
 use Rattle.lent.specs.Moves.{Settled}
 use Rattle.lent.proofs.Memory.{kept_part, push_part, put_part}
 
@@ -28,14 +26,6 @@ module _ {P : Type 0} (s : Stage P) (h : Whole s.run s.vehicles s.mail) where
   row_read v d lo hi =
       get_or_default s.vehicles (v - 1) d blank (omega (arith, lo, hi, h.vehicle_count))
       ∙ sym (get_or-take s.run.vehicles s.vehicles (v - 1) blank (omega (arith, lo, hi)))
-
-  pub message_read : (i : ℕ) (d : MessageRow) → 1 ≤ i → i ≤ s.run.mail → get_or s.mail (i - 1) d ≡ message_of (world s).mail i
-  message_read i d lo hi =
-      get_or_default s.mail (i - 1) d no_mail (omega (arith, lo, hi, h.mail_count))
-      ∙ sym (get_or-take s.run.mail s.mail (i - 1) no_mail (omega (arith, lo, hi)))
-
-  pub row_good : (v : ℕ) → Arrived (world s).vehicles v → Good s.run.junction (row_of (world s).vehicles v)
-  row_good v at = All-get_or (Good s.run.junction) (world s).vehicles (v - 1) blank (omega (arith, at.0, at.1)) h.rows
 
   row_count : (v : ℕ) (x : VehicleRow) → s.run.vehicles ≡ length (set (world s).vehicles (v - 1) x)
   row_count v x = sym (length-set (world s).vehicles (v - 1) x ∙ vehicles_long)
@@ -66,12 +56,13 @@ module _ {P : Type 0} (view : P → View) (s : Stage P) (h : Whole s.run s.vehic
 
   -- a message is put behind the others
   pub sent : (x y : MessageRow) → y ≡ x → s.run.mail < length s.mail → r.vehicles ≡ s.run.vehicles → r.mail ≡ s.run.mail + 1
-      → Later view s (record { vehicles = (world s).vehicles; mail = (world s).mail ++ x ∷ []; policy = s.policy }) (stage r s.vehicles (set s.mail s.run.mail y) s.policy)
-  sent x y is free v m =
+      → (ms : List MessageRow) → ms ≡ set s.mail s.run.mail y
+      → Later view s (record { vehicles = (world s).vehicles; mail = (world s).mail ++ x ∷ []; policy = s.policy }) (stage r s.vehicles ms s.policy)
+  sent x y is free v m ms put =
       record {
         run = counts (v ∙ sym (vehicles_long s h)) (m ∙ pushed_count (world s).mail x _ (mail_long s h));
         vehicles = kept_part s.vehicles s.run.vehicles h.vehicle_count;
-        mail = ap (set s.mail s.run.mail) is ∙ push_part s.mail s.run.mail x free;
+        mail = put ∙ ap (set s.mail s.run.mail) is ∙ push_part s.mail s.run.mail x free;
         policy = refl;
       }
 
@@ -88,14 +79,14 @@ module _ {P : Type 0} (view : P → View) (s : Stage P) (h : Whole s.run s.vehic
         }
 
     -- and a message is put behind the others
-    pub posted : (m : MessageRow) → s.run.mail < length s.mail → r.vehicles ≡ s.run.vehicles → r.mail ≡ s.run.mail + 1
-        → Later view s (record { vehicles = set (world s).vehicles (v - 1) x; mail = (world s).mail ++ m ∷ []; policy = s.policy })
-        (stage r (set s.vehicles (v - 1) x) (set s.mail s.run.mail m) s.policy)
-    posted y free n m =
+    pub posted : (y : MessageRow) → s.run.mail < length s.mail → r.vehicles ≡ s.run.vehicles → r.mail ≡ s.run.mail + 1
+        → (ms : List MessageRow) → ms ≡ set s.mail s.run.mail y
+        → Later view s (record { vehicles = set (world s).vehicles (v - 1) x; mail = (world s).mail ++ y ∷ []; policy = s.policy }) (stage r (set s.vehicles (v - 1) x) ms s.policy)
+    posted y free n m ms put =
         record {
           run = counts (n ∙ row_count s h v x) (m ∙ pushed_count (world s).mail y _ (mail_long s h));
           vehicles = row_put s h v x lo hi;
-          mail = push_part s.mail s.run.mail y free;
+          mail = put ∙ push_part s.mail s.run.mail y free;
           policy = refl;
         }
 

@@ -7,7 +7,6 @@ ghost use Rattle.run.specs.Calls.{Agrees, Whole, common, of_message, of_vehicle}
 ghost use Rattle.run.specs.Tables.{Nothing, Ruled};
 ghost use Rattle.lent.specs.Scenes.{MessageAt, VehicleAt, seen};
 
-use grid::junction::Junction;
 use message::message::Message;
 use message::row::MessageRow;
 use policy::policy::Policy;
@@ -26,13 +25,6 @@ pub struct Scene<'a, P> {
     pub mail: &'a [MessageRow],
 }
 
-// Whether the two have as many lanes and the same buffer.
-fn are_one(a: Junction, b: Junction) -> bool
-    ensures { Decides result (a ≡ b) }
-{
-    a.lanes == b.lanes && a.buffer == b.buffer
-}
-
 impl<P: Policy> Scene<'_, P> {
     fn is_whole(&self) -> bool
         ensures { Decides result (Whole self.now.run.now self.now.vehicles.now self.now.mail.now) }
@@ -48,10 +40,11 @@ impl<P: Policy> Scene<'_, P> {
             && self.mail[..run.mail].iter().all(|row| row.is_good())
     }
 
+    #[tactic(auto, using(crate::proofs::Junctions::one_junction))]
     fn agrees(&self) -> bool
         ensures { Decides result (Agrees self.now.run.now (P.view self.now.policy.now)) }
     {
-        are_one(self.run.junction, self.policy.junction()) && self.run.clock == self.policy.clock()
+        self.run.junction == self.policy.junction() && self.run.clock == self.policy.clock()
     }
 
     // Whether a call may begin, or which of these rows refuses it.
@@ -67,12 +60,19 @@ impl<P: Policy> Scene<'_, P> {
         Ok(())
     }
 
+    // Whether there is a message of that number, from 1.
+    fn is_under_way(&self, message: u32) -> bool
+        ensures { Decides result ((1 ≤ message) × (message ≤ self.now.run.now.mail)) }
+    {
+        (1..=self.run.mail).contains(&(message as usize))
+    }
+
     // The message of that number, from 1, if a call on it may begin.
     pub fn message(&self, message: u32) -> Result<Message, CallFault>
         ensures answer { Ruled (of_message P.view (seen self.now) message) (MessageAt (seen self.now) message) (Unit {0}) result }
     {
         self.ready()?;
-        if message < 1 || message as usize > self.run.mail {
+        if !self.is_under_way(message) {
             return Err(CallFault::NoMessage);
         }
         Ok(Message {
@@ -84,7 +84,7 @@ impl<P: Policy> Scene<'_, P> {
     pub fn has_arrived(&self, vehicle: u32) -> bool
         ensures answer { Decides result ((1 ≤ vehicle) × (vehicle ≤ self.now.run.now.vehicles)) }
     {
-        vehicle >= 1 && vehicle as usize <= self.run.vehicles
+        (1..=self.run.vehicles).contains(&(vehicle as usize))
     }
 
     // The record of the vehicle of that number, from 1, if a call on it may begin.

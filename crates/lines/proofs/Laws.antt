@@ -1,20 +1,20 @@
 -- A text reads as one thing only: the line of one message, or one fault. Assumes nothing.
-use Rattle.std.proofs.Common.{◌≡◌, ℕ, zero, suc, ◌+◌, ◌*◌, ◌<◌, ◌≤◌, true, false, cond, eqb, List, [], ◌∷◌, map, length, get_or, drop, Ok, Err, decimal, Result, sym, refl, ap, ◌∙◌, subst, ⊎_elim, arith}
+use Rattle.std.proofs.Common.{◌≡◌, ℕ, ◌+◌, ◌*◌, ◌<◌, ◌≤◌, true, false, cond, eqb, List, [], ◌∷◌, map, length, get_or, drop, Ok, Err, decimal, Result, sym, refl, ap, ◌∙◌, subst, ⊎_elim, arith}
+use Rattle.std.specs.List.{AllByRecursion}
 use Rattle.std.specs.Str.Parse.{AllDigits}
 use Rattle.std.proofs.lemmas.Fmt.{decimal_is_IsNumeral, length-decimal-le, decimal_injective}
 use Rattle.std.proofs.lemmas.List.{length-append, length-map}
 use Rattle.std.proofs.lemmas.Str.Parse.{digit_from_value}
-use Rattle.std.proofs.lemmas.Bool.{and_parts, and_from, leb-true, lt-ltb, true≢false, cases_lt}
+use Rattle.std.proofs.lemmas.Bool.{and_parts, and_from, ne_eqb, not_from_false, leb-true, lt-ltb, true≢false, cases_lt}
 use Rattle.refusal.specs.declared.kinds.Denial.TheVariants.{Because, Clash}
 use Rattle.refusal.specs.declared.kinds.LineFault.TheVariants as what
 use Rattle.refusal.specs.declared.kinds.WriteFault.{WriteFault}
 use Rattle.refusal.specs.declared.kinds.WriteFault.TheVariants.{Room}
 use Rattle.fields.specs.Texts.{begins, join, split}
-use Rattle.fields.proofs.Cuts.{Whole, Wholes, split_join}
+use Rattle.fields.proofs.Cuts.{Whole, split_join}
 use Rattle.message.specs.Fields.{AllTake, fields_of}
 use Rattle.message.specs.Rows.{good_denial, good_row, is_number, fits_vehicle, kind_of, numbers_of_row}
 use Rattle.message.specs.declared.kinds.Field.{Field}
-use Rattle.message.specs.declared.kinds.Field.TheVariants.{Vehicle}
 use Rattle.message.specs.declared.kinds.Kind.{Kind}
 use Rattle.message.specs.declared.kinds.Kind.TheVariants.{Request, Change, Cancel, Done, Confirm, Reject}
 use Rattle.message.specs.declared.message.Message.{Message}
@@ -22,24 +22,21 @@ use Rattle.message.specs.declared.row.MessageRow.{MessageRow}
 use Rattle.message.specs.declared.row.MessageRow.TheVariants as row
 use Rattle.message.proofs.Rows.{good_takes, reason_told, rows_same, takes_small}
 use Rattle.lines.specs.Lines.{keyword, line_of, text_of}
-use Rattle.lines.specs.Good.{FirstBad, Good, pair_ok}
+use Rattle.lines.specs.Good.{FirstBad, pair_ok}
 use Rattle.lines.specs.Places.{fault_at}
 use Rattle.lines.specs.Readings.{Begins, Counted, Faults, Only, Reads, Sized, size, word, count, field, pair}
 use Rattle.lines.specs.Writings.{Counts}
 use Rattle.lines.specs.declared.faults.LineError.{LineError}
-use Rattle.lines.proofs.Steps.{some_fields}
+use Rattle.lines.proofs.Steps.{arity, few_fields, good_at}
 
 -- a keyword has no comma, and one to seven bytes
-no_comma : (n : ℕ) → 44 < n → n ≡ 44 → ⊥
-no_comma n h e = omega arith
-
 whole_keyword : (k : Kind) → Whole (keyword k)
-whole_keyword Request = search (no_comma, arith)
-whole_keyword Change = search (no_comma, arith)
-whole_keyword Cancel = search (no_comma, arith)
-whole_keyword Done = search (no_comma, arith)
-whole_keyword Confirm = search (no_comma, arith)
-whole_keyword Reject = search (no_comma, arith)
+whole_keyword Request = refl
+whole_keyword Change = refl
+whole_keyword Cancel = refl
+whole_keyword Done = refl
+whole_keyword Confirm = refl
+whole_keyword Reject = refl
 
 keyword_size : (k : Kind) → (0 < length (keyword k)) × (length (keyword k) ≤ 7)
 keyword_size Request = (omega arith, omega arith)
@@ -70,17 +67,13 @@ keyword_same k j e = sym (tagged k) ∙ ap (λ w. kind_by (tag w)) e ∙ tagged 
 
 -- no digit is a comma
 whole_digits : (ds : List ℕ) → AllDigits 10 ds → Whole ds
-whole_digits [] d = tt
-whole_digits (c ∷ ds) d = let i = digit_from_value c d.0 in (λ e. omega arith, whole_digits ds d.1)
+whole_digits [] d = refl
+whole_digits (c ∷ ds) d =
+    let i = digit_from_value c d.0 in
+    and_from _ _ (not_from_false _ (ne_eqb c 44 (λ e. omega arith))) (whole_digits ds d.1)
 
 -- numbers that their fields may have
-arity : (fs : List Field) (ns : List ℕ) → AllTake fs ns → length ns ≡ length fs
-arity [] [] a = refl
-arity [] (n ∷ ns) a = absurd a
-arity (f ∷ fs) [] a = absurd a
-arity (f ∷ fs) (n ∷ ns) a = ap suc (arity fs ns a.1)
-
-whole_numbers : (fs : List Field) (ns : List ℕ) → AllTake fs ns → Wholes (map decimal ns)
+whole_numbers : (fs : List Field) (ns : List ℕ) → AllTake fs ns → AllByRecursion Whole (map decimal ns)
 whole_numbers [] [] a = tt
 whole_numbers [] (n ∷ ns) a = absurd a
 whole_numbers (f ∷ fs) [] a = absurd a
@@ -115,12 +108,6 @@ join_size w (f ∷ fs) (n ∷ ns) a =
     let r = join_size (decimal n) fs ns a.1 in
     (omega arith, omega arith)
 
-good_at : (fs : List Field) (ns : List ℕ) → AllTake fs ns → (i : ℕ) → i < length fs → Good (get_or fs i Vehicle) (get_or (map decimal ns) i [])
-good_at [] ns a i l = absurd (omega arith)
-good_at (f ∷ fs) [] a i l = absurd a
-good_at (f ∷ fs) (n ∷ ns) a zero l = (n, (a.0, refl))
-good_at (f ∷ fs) (n ∷ ns) a (suc i) l = good_at fs ns a.1 i (omega arith)
-
 -- a text of a keyword and numbers that its fields may have
 module _ (k : Kind) (ns : List ℕ) (a : AllTake (fields_of k) ns) where
   pub split_text : split (text_of k ns) ≡ keyword k ∷ map decimal ns
@@ -130,7 +117,7 @@ module _ (k : Kind) (ns : List ℕ) (a : AllTake (fields_of k) ns) where
   text_sized =
       let s = join_size (keyword k) (fields_of k) ns a in
       let w = keyword_size k in
-      let five = some_fields k in
+      let five = few_fields k in
       let n = arity (fields_of k) ns a in
       (omega arith, omega arith)
 

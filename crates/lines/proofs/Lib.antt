@@ -1,5 +1,4 @@
 pub mod Steps
-pub mod Whole
 pub mod Verdicts
-pub mod Laws
 pub mod Spells
+pub mod Laws

@@ -2,9 +2,8 @@
 use Rattle.std.specs.Prelude.{◌≡◌, ℕ, ◌<◌, ◌≤◌, List, ◌++◌, length, drop, Ok, Err, Result}
 use Rattle.refusal.specs.declared.kinds.WriteFault.{WriteFault}
 use Rattle.refusal.specs.declared.kinds.WriteFault.TheVariants.{Room}
-use Rattle.fields.specs.Buffers.{text_in}
-use Rattle.fields.specs.declared.buffer.Buffer.{Buffer}
-use Rattle.fields.specs.declared.buffer.Full.{Full}
+use Rattle.arrayvec.specs.ArrayVec.{ArrayVec}
+use Rattle.arrayvec.specs.declared.errors.CapacityError.{CapacityError}
 use Rattle.lines.specs.Readings.{Faults}
 use Rattle.lines.specs.declared.faults.LineError.{LineError}
 
@@ -22,9 +21,9 @@ abbrev pub written : List ℕ → List ℕ → Result ℕ WriteFault → List �
 written bs old (Ok n) = onto bs old
 written bs old (Err Room) = old
 
--- the line stands in a buffer, or is longer than one
-abbrev pub Spelt : List ℕ → Result Buffer Full → Type 0
-Spelt bs (Ok b) = text_in b ≡ bs
+-- the line, or that it is longer than any line may be
+abbrev pub Spelt : List ℕ → Result (ArrayVec ℕ) (CapacityError (Unit {0})) → Type 0
+Spelt bs (Ok line) = line.items ≡ bs
 Spelt bs (Err _) = 64 < length bs
 
 -- a line is written back byte by byte; of a text with a fault nothing is

@@ -4,6 +4,7 @@ ghost use Rattle.lines.specs.Places.{in_line};
 
 use refusal::kinds::LineFault;
 
+// The three numbers are told alike whatever the fault, so they are no fields of each case.
 #[derive(Clone, Copy)]
 pub struct LineError {
     pub fault: LineFault,

@@ -1,5 +1,5 @@
 // The word that begins a line of each kind.
-ghost use Rattle.std.specs.Prelude.{◌≡◌, Decides};
+ghost use Rattle.std.specs.Prelude.{◌≡◌};
 ghost use Rattle.lines.specs.Lines.{Recognised, keyword};
 
 use message::kinds::Kind;
@@ -29,29 +29,12 @@ pub(crate) fn keyword_of(kind: Kind) -> &'static [u8]
     }
 }
 
-fn is_keyword(word: &[u8], kind: Kind) -> bool
-    ensures { Decides result (word.now ≡ keyword kind) }
-{
-    word == keyword_of(kind)
-}
-
 // The kind whose keyword this is. No two kinds have one keyword, so they may be tried in any order.
 pub(crate) fn recognise(word: &[u8]) -> Option<Kind>
     ensures { Recognised word.now result }
 {
-    if is_keyword(word, Kind::Request) {
-        Some(Kind::Request)
-    } else if is_keyword(word, Kind::Change) {
-        Some(Kind::Change)
-    } else if is_keyword(word, Kind::Cancel) {
-        Some(Kind::Cancel)
-    } else if is_keyword(word, Kind::Done) {
-        Some(Kind::Done)
-    } else if is_keyword(word, Kind::Confirm) {
-        Some(Kind::Confirm)
-    } else if is_keyword(word, Kind::Reject) {
-        Some(Kind::Reject)
-    } else {
-        None
-    }
+    Kind::ALL
+        .iter()
+        .copied()
+        .find(|kind| word == keyword_of(*kind))
 }

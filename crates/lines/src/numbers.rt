@@ -1,96 +1,21 @@
-// From a row to its numbers, and back.
-ghost use Rattle.std.specs.Prelude.{◌≡◌, ◌≤◌, length, take};
-ghost use Rattle.message.specs.Fields.{Takes, fields_of};
-ghost use Rattle.message.specs.Rows.{numbers_of_denial, kind_of, numbers_of_row};
+// From numbers to a row, and back.
+ghost use Rattle.std.specs.Prelude.{◌≡◌};
+ghost use Rattle.message.specs.Fields.{AllTake, Takes, fields_of};
+ghost use Rattle.message.specs.Rows.{numbers_of_denial};
 ghost use Rattle.message.specs.declared.kinds.Field.{Field};
-ghost use Rattle.lines.specs.Parts.{DenialIn, EachTakes, RowIn};
+ghost use Rattle.lines.specs.Parts.{DenialIn, RowIn};
 
-use message::fields::reason_of;
 use message::kinds::Kind;
 use message::row::MessageRow;
-use refusal::kinds::{Denial, Name};
-
-// The numbers of a row: the first `count`.
-#[derive(Clone, Copy)]
-pub(crate) struct Numbers {
-    pub(crate) values: [u32; 5],
-    pub(crate) count: usize,
-}
-
-pub(crate) fn kind_of(row: &MessageRow) -> Kind
-    ensures { result ≡ kind_of row.now }
-{
-    match row {
-        MessageRow::Request { .. } => Kind::Request,
-        MessageRow::Change { .. } => Kind::Change,
-        MessageRow::Cancel { .. } => Kind::Cancel,
-        MessageRow::Done { .. } => Kind::Done,
-        MessageRow::Confirm { .. } => Kind::Confirm,
-        MessageRow::Reject { .. } => Kind::Reject,
-    }
-}
+use refusal::kinds::{Denial, Name, Reason};
 
 // The reason's number and the name of the clashing request.
-fn denial_numbers(denial: Denial) -> [u32; 3]
+pub(crate) fn denial_numbers(denial: Denial) -> [u32; 3]
     ensures { result ≡ numbers_of_denial denial }
 {
     match denial {
         Denial::Because(reason) => [reason.number(), 0, 0],
         Denial::Clash(name) => [34, name.vehicle, name.number],
-    }
-}
-
-pub(crate) fn numbers_of(row: &MessageRow) -> Numbers
-    ensures numbers { take result.count result.values ≡ numbers_of_row row.now }
-    ensures few { result.count ≤ length result.values }
-{
-    match *row {
-        MessageRow::Request {
-            vehicle,
-            number,
-            entry,
-            distance,
-        } => Numbers {
-            values: [vehicle, number, entry, distance, 0],
-            count: 4,
-        },
-        MessageRow::Change {
-            vehicle,
-            number,
-            base,
-            entry,
-            distance,
-        } => Numbers {
-            values: [vehicle, number, base, entry, distance],
-            count: 5,
-        },
-        MessageRow::Cancel { vehicle, number } => Numbers {
-            values: [vehicle, number, 0, 0, 0],
-            count: 2,
-        },
-        MessageRow::Done { vehicle } => Numbers {
-            values: [vehicle, 0, 0, 0, 0],
-            count: 1,
-        },
-        MessageRow::Confirm {
-            vehicle,
-            number,
-            entry,
-        } => Numbers {
-            values: [vehicle, number, entry, 0, 0],
-            count: 3,
-        },
-        MessageRow::Reject {
-            vehicle,
-            number,
-            denial,
-        } => {
-            let [reason, rival_vehicle, rival_number] = denial_numbers(denial);
-            Numbers {
-                values: [vehicle, number, reason, rival_vehicle, rival_number],
-                count: 5,
-            }
-        }
     }
 }
 
@@ -108,54 +33,44 @@ fn denial_of(reason: u32, vehicle: u32, number: u32) -> Option<Denial>
     if vehicle != 0 || number != 0 {
         return None;
     }
-    Some(Denial::Because(reason_of(reason)?))
+    Some(Denial::Because(Reason::try_from(reason).ok()?))
 }
 
 // The row of numbers that are each in their range: there is none where a rejection names a request
 // without a clash, or a clash without its request.
-pub(crate) fn row_of(kind: Kind, n: &[u32; 5]) -> Option<MessageRow>
-    requires { EachTakes (fields_of kind) n.now (length (fields_of kind)) }
-    ensures { RowIn kind n.now result }
+pub(crate) fn row_of(kind: Kind, numbers: &[u32]) -> Option<MessageRow>
+    requires { AllTake (fields_of kind) numbers.now }
+    ensures { RowIn kind numbers.now result }
 {
-    let row = match kind {
-        Kind::Request => MessageRow::Request {
-            vehicle: n[0],
-            number: n[1],
-            entry: n[2],
-            distance: n[3],
+    let row = match (kind, numbers) {
+        (Kind::Request, &[vehicle, number, entry, distance]) => MessageRow::Request {
+            vehicle,
+            number,
+            entry,
+            distance,
         },
-        Kind::Change => MessageRow::Change {
-            vehicle: n[0],
-            number: n[1],
-            base: n[2],
-            entry: n[3],
-            distance: n[4],
+        (Kind::Change, &[vehicle, number, base, entry, distance]) => MessageRow::Change {
+            vehicle,
+            number,
+            base,
+            entry,
+            distance,
         },
-        Kind::Cancel => MessageRow::Cancel {
-            vehicle: n[0],
-            number: n[1],
+        (Kind::Cancel, &[vehicle, number]) => MessageRow::Cancel { vehicle, number },
+        (Kind::Done, &[vehicle]) => MessageRow::Done { vehicle },
+        (Kind::Confirm, &[vehicle, number, entry]) => MessageRow::Confirm {
+            vehicle,
+            number,
+            entry,
         },
-        Kind::Done => MessageRow::Done { vehicle: n[0] },
-        Kind::Confirm => MessageRow::Confirm {
-            vehicle: n[0],
-            number: n[1],
-            entry: n[2],
-        },
-        Kind::Reject => {
-            return reject_of(n);
+        (Kind::Reject, &[vehicle, number, reason, rival_vehicle, rival_number]) => {
+            MessageRow::Reject {
+                vehicle,
+                number,
+                denial: denial_of(reason, rival_vehicle, rival_number)?,
+            }
         }
+        _ => unreachable(),
     };
     Some(row)
-}
-
-// The row of a rejection.
-fn reject_of(n: &[u32; 5]) -> Option<MessageRow>
-    requires { EachTakes (fields_of Kind.Reject) n.now 5 }
-    ensures { RowIn Kind.Reject n.now result }
-{
-    Some(MessageRow::Reject {
-        vehicle: n[0],
-        number: n[1],
-        denial: denial_of(n[2], n[3], n[4])?,
-    })
 }

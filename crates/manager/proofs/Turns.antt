@@ -2,6 +2,7 @@
 use Rattle.std.proofs.Common.{◌≡◌, ℕ, suc, ◌+◌, ◌<◌, ◌≤◌, Bool, true, false, cond, not, eqb, List, [], ◌∷◌, ◌++◌, length, is_some, Some, None, filter, Option, sym, refl, ap, ◌∙◌, subst, inl, inr, append_assoc, append-nil, arith, length-append}
 use Rattle.std.specs.List.{ContainsAt as Has, slice_get}
 use Rattle.std.proofs.lemmas.List.Elements.{filter-append}
+use Rattle.std.proofs.lemmas.Option.{none-some, same_Some}
 use Rattle.std.proofs.ByRecursion.{has_append_right, has_get_or, has_push_cases}
 use Rattle.std.proofs.lemmas.List.Filters.{length-filter_both}
 use Rattle.std.proofs.lemmas.Bool.{and_from, and_parts, cases_Bool, cond_both, cond-false, cond-true, eq-eqb, eqb-true, not_from_false, not_from_true}
@@ -12,9 +13,6 @@ use Rattle.policy.specs.Views.{found, named, numbered, released}
 use Rattle.run.specs.Manager.{Based, Cleared, Stale, more, name, over}
 use Rattle.run.specs.Worlds.{Conduct}
 
-no_more : {X : Type 0} (x : X) → ◌≡◌ {A = Option X} None (Some x) → ⊥
-no_more x is = let z : ◌≡◌ {A = ℕ} 0 1 = cc in omega arith
-
 module _ {X : Type 0} where
   -- what stands right behind the front
   nth_behind : (front back : List X) → slice_get (front ++ back) (length front) ≡ slice_get back 0
@@ -23,12 +21,12 @@ module _ {X : Type 0} where
 
   -- the list behind the front begins with it, or is empty
   behind : (back : List X) (x : X) → slice_get back 0 ≡ Some x → (rest : List X) × (back ≡ x ∷ rest)
-  behind [] x is = absurd (no_more x is)
-  behind (y ∷ rest) x is = (rest, (let same : y ≡ x = cc in ap (λ z. z ∷ rest) same))
+  behind [] x is = absurd (none-some x is)
+  behind (y ∷ rest) x is = (rest, ap (λ z. z ∷ rest) (same_Some y x is))
 
   nothing_behind : (back : List X) → slice_get back 0 ≡ None → back ≡ []
   nothing_behind [] is = refl
-  nothing_behind (y ∷ rest) is = absurd (no_more y (sym is))
+  nothing_behind (y ∷ rest) is = absurd (none-some y (sym is))
 
   module _ (p : X → Bool) where
     -- where all pass, all are kept

@@ -10,17 +10,11 @@ use reservation::request::Request;
 fn is_stale(vehicle: u32, base: Option<u32>, request: &Request) -> bool
     ensures { Decides result (Stale vehicle base request.now) }
 {
-    if request.vehicle != vehicle {
-        return false;
-    }
-    match base {
-        Some(number) => request.number != number,
-        None => true,
-    }
+    request.vehicle == vehicle && base != Some(request.number)
 }
 
-// Releases the vehicle's standing requests but its base, in the order granted. A release moves the later requests up,
-// so that the next one to look at stands at the same place.
+// Releases the vehicle's standing requests but its base, in the order granted. The place is counted by hand, since a
+// release moves the later requests up: the next one to look at then stands at the same place.
 pub(crate) fn release_stale<P: Policy>(policy: &mut P, vehicle: u32, base: Option<u32>)
     ensures { Cleared (conduct P.view P.asks P.releases P.advances) vehicle base policy.old policy.new }
 {

@@ -1,24 +1,41 @@
-// One bit of a word at a time.
+// The bits of a word.
 ghost use Rattle.std.specs.Prelude.{◌≡◌, ℕ, ◌<◌, true, not, ◌&&◌, if◌then◌else◌, ◌==◌};
+ghost use Rattle.std.specs.Iterator.{at_most};
 ghost use Rattle.grid.specs.Sets.{bit};
+ghost use Rattle.marks.specs.Ones.{TakesOne};
 
-// The lowest bit that is 1.
-pub(crate) fn lowest(word: u64) -> u32
-    requires { 0 < word }
+// Turns the lowest bit that is 1 to 0, and says which it was.
+pub(crate) fn take_lowest(word: &mut u64) -> u32
+    requires { 0 < word.old }
     ensures within { result < 64 }
-    ensures on { bit word result ≡ true }
+    ensures on { bit word.old result ≡ true }
+    ensures bits { (j : ℕ) → bit word.new j ≡ (bit word.old j && not (j == result)) }
+    ensures falls { word.new < word.old }
 {
-    word.trailing_zeros()
+    let lowest = word.trailing_zeros();
+    *word &= *word - 1;
+    lowest
 }
 
-// The word with bit `k`, which is 1, turned to 0.
-pub(crate) fn turned_off(word: u64, k: u32) -> u64
-    requires within { k < 64 }
-    requires on { bit word k ≡ true }
-    ensures bits { (j : ℕ) → bit result j ≡ (bit word j && not (j == k)) }
-    ensures falls { result < word }
-{
-    word ^ (1 << k)
+// The places of the bits of a word that are 1, from the lowest on.
+#[derive(Drop)]
+pub(crate) struct Ones {
+    pub(crate) rest: u64,
+}
+
+impl Iterator for Ones {
+    type Item = u32;
+
+    ghost next_gives = { λ s k t. TakesOne s.rest k t.rest };
+
+    ghost remaining = { λ s. at_most s.rest };
+
+    fn next(&mut self) -> Option<u32> {
+        if self.rest == 0 {
+            return None;
+        }
+        Some(take_lowest(&mut self.rest))
+    }
 }
 
 // The tiles that have a mark, once those of `tiles` are given the mark `vehicle`.

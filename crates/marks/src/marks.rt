@@ -65,6 +65,7 @@ impl Marks {
         ensures here { (tile : ℕ) → tile < 64 → mark self.new tile tick ≡ (if has_tile tiles tile then vehicle else mark self.old tile tick) }
         ensures others { (tile u : ℕ) → tile < 64 → (u % 128 ≢ tick % 128) → mark self.new tile u ≡ mark self.old tile u }
     {
+        // a local, since the checker builds no call at `self.rows[i]` beside a ghost field
         let rows = &mut self.rows;
         rows[(tick % 128) as usize].put(tiles, vehicle);
     }

@@ -2,9 +2,9 @@
 ghost use Rattle.std.specs.Prelude.{◌≡◌, ℕ, ◌<◌, not, ◌&&◌, length, if◌then◌else◌, ◌==◌, slice_index};
 ghost use Rattle.grid.specs.Sets.{bit, has_tile};
 ghost use Rattle.grid.specs.Some.{some};
-ghost use Rattle.marks.specs.Rows.{Agree, is_other, some_differs};
+ghost use Rattle.marks.specs.Rows.{Agree, is_other};
 
-use super::bits::{lowest, marked_after, turned_off};
+use super::bits::{Ones, marked_after};
 use grid::tiles::TileSet;
 
 #[derive(Clone, Copy)]
@@ -16,31 +16,13 @@ pub(crate) struct Row {
     ghost agree: { Agree marks taken },
 }
 
-// Whether some tile of the word has another mark than `vehicle`.
-fn differs(marks: &[u16; 64], word: u64, vehicle: u16) -> bool
-    ensures { result ≡ some_differs marks.now vehicle word }
-{
-    let mut rest = word;
-    while rest != 0 {
-        let tile = lowest(rest);
-        if marks[tile as usize] != vehicle {
-            return true;
-        }
-        rest = turned_off(rest, tile);
-    }
-    false
-}
-
-// Gives the tiles of the word the mark `vehicle`.
+// Gives the tiles of the word the mark `vehicle`. By itself, since a row's marks and tiles do not agree before the loop ends.
 fn write(marks: &mut [u16; 64], word: u64, vehicle: u16)
     ensures long { length marks.new ≡ 64 }
     ensures marks { (tile : ℕ) → tile < 64 → slice_index marks.new tile ≡ (if bit word tile then vehicle else slice_index marks.old tile) }
 {
-    let mut rest = word;
-    while rest != 0 {
-        let tile = lowest(rest);
+    for tile in (Ones { rest: word }) {
         marks[tile as usize] = vehicle;
-        rest = turned_off(rest, tile);
     }
 }
 
@@ -74,7 +56,10 @@ impl Row {
     pub(crate) fn other_than(&self, tiles: TileSet, vehicle: u16) -> bool
         ensures { result ≡ some 64 (λ tile. has_tile tiles tile && is_other vehicle (slice_index self.now.marks tile)) }
     {
-        differs(&self.marks, tiles.bits & self.taken, vehicle)
+        Ones {
+            rest: tiles.bits & self.taken,
+        }
+        .any(|tile| self.marks[tile as usize] != vehicle)
     }
 
     // Gives each tile of the set the mark `vehicle`; 0 takes its mark away.

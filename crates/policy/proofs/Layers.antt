@@ -48,16 +48,16 @@ module _ (clash : Junction → Request → Request → Type 0) (w : View) (own g
   unstopped u (inr (p, inr (q, inl name))) = absurd (ok_err name.1)
   unstopped u (inr (p, inr (q, inr (s, e)))) = gate_opens own u e
 
-  pub layer_answers : (same : Type 0) (below : Result (Unit {0}) Denial → Type 0) (a : Result (Unit {0}) Denial)
+  pub layer_answers : (alone : Reason → Type 0) (below : Result (Unit {0}) Denial → Type 0) (a : Result (Unit {0}) Denial)
       → ((b : Result (Unit {0}) Denial) → below b → Answer clash w gate r b)
-      → Layered w own r same below a → Answer clash w (over own gate) r a
-  layer_answers same below a means (Err g, stopped, told) = stopped_answer g a stopped told.0
-  layer_answers same below a means (Ok u, passed, told) =
+      → Layered w own r alone below a → Answer clash w (over own gate) r a
+  layer_answers alone below a means (Err g, stopped, told) = stopped_answer g a stopped told.0
+  layer_answers alone below a means (Ok u, passed, told) =
       subst (λ o. Answer clash w (over o gate) r a) (sym (unstopped u passed)) (means a told)
 
 -- a layer's ledger is the one below
-pub layer_records : (w w' : View) (own : Option Reason) (r : Request) (same : Type 0) (below : Result (Unit {0}) Denial → Type 0) (a : Result (Unit {0}) Denial)
-    → (same → w' ≡ w) → ((b : Result (Unit {0}) Denial) → below b → w' ≡ asked w r b)
-    → Layered w own r same below a → w' ≡ asked w r a
-layer_records w w' own r same below a stays means (Err g, stopped, told) = stays told.1 ∙ ap (asked w r) (sym told.0)
-layer_records w w' own r same below a stays means (Ok u, passed, told) = means a told
+pub layer_records : (w w' : View) (own : Option Reason) (r : Request) (alone : Reason → Type 0) (below : Result (Unit {0}) Denial → Type 0) (a : Result (Unit {0}) Denial)
+    → ((g : Reason) → alone g → w' ≡ w) → ((b : Result (Unit {0}) Denial) → below b → w' ≡ asked w r b)
+    → Layered w own r alone below a → w' ≡ asked w r a
+layer_records w w' own r alone below a stays means (Err g, stopped, told) = stays g told.1 ∙ ap (asked w r) (sym told.0)
+layer_records w w' own r alone below a stays means (Ok u, passed, told) = means a told

@@ -22,6 +22,6 @@ refused_by (Some g) = Err g
 abbrev pub Stopped : View → Option Reason → Request → Result (Unit {0}) Reason → Type 0
 Stopped w own r = Screened w.junction w.clock (found (name_of r) w.ledger) r (λ g o. o ≡ Err g) (λ o. o ≡ refused_by own)
 
--- the layer refuses so, and then all stays the same, or asks below
-abbrev pub Layered : View → Option Reason → Request → Type 0 → (Result (Unit {0}) Denial → Type 0) → Result (Unit {0}) Denial → Type 0
-Layered w own r same below a = (o : Result (Unit {0}) Reason) × Stopped w own r o × MatchResult o (λ _. below a) (λ g. Denied g a × same)
+-- the layer refuses so, and then comes what its own refusal makes of it, or it asks below
+abbrev pub Layered : View → Option Reason → Request → (Reason → Type 0) → (Result (Unit {0}) Denial → Type 0) → Result (Unit {0}) Denial → Type 0
+Layered w own r alone below a = (o : Result (Unit {0}) Reason) × Stopped w own r o × MatchResult o (λ _. below a) (λ g. Denied g a × alone g)

@@ -1,15 +1,16 @@
 // What a call answers, and how that is printed.
-use super::command::PolicyCall;
-use grid::kinds::{Approach, Movement};
-use policy::policy::Policy;
+use grid::kinds::Body;
 use refusal::kinds::{Denial, Name, Refusal};
 use reservation::request::Request;
 use std::fmt;
+use std::io::Write;
 
+// What a call answers that is not refused.
 #[derive(Clone, Copy)]
-pub(crate) enum Answer {
+pub(crate) enum Told {
     Accepted,
-    Refused(Refusal),
+    // the number of the vehicle that arrived, or of the request that was sent
+    Numbered(u32),
     // whether a release took something out
     Released(bool),
     // the entry tick that was looked for
@@ -17,48 +18,9 @@ pub(crate) enum Answer {
     Standing(Option<Request>),
 }
 
-// One call of any policy.
-pub(crate) fn perform<P: Policy>(policy: &mut P, call: &PolicyCall) -> Answer {
-    match call {
-        PolicyCall::Book(request) => match policy.ask(request) {
-            Ok(()) => Answer::Accepted,
-            Err(denial) => Answer::Refused(Refusal::Denied(denial)),
-        },
-        PolicyCall::Release(name) => Answer::Released(policy.release(*name)),
-        PolicyCall::Advance => match policy.advance() {
-            Ok(()) => Answer::Accepted,
-            Err(fault) => Answer::Refused(Refusal::Call(fault)),
-        },
-        PolicyCall::Find(name) => Answer::Entry(policy.find(*name)),
-        PolicyCall::At(i) => Answer::Standing(policy.at(*i)),
-    }
-}
-
-pub(crate) fn approach_letter(approach: Approach) -> char {
-    match approach {
-        Approach::North => 'N',
-        Approach::East => 'E',
-        Approach::South => 'S',
-        Approach::West => 'W',
-    }
-}
-
-pub(crate) fn movement_letter(movement: Movement) -> char {
-    match movement {
-        Movement::Left => 'L',
-        Movement::Through => 'T',
-        Movement::Right => 'R',
-    }
-}
-
-// A clash is printed with the name of the request that is in the way.
-fn show_refusal<W: fmt::Write>(refusal: Refusal, f: &mut fmt::Formatter<W>) -> fmt::Result {
-    let number = refusal.number();
-    match refusal {
-        Refusal::Denied(Denial::Clash(Name { vehicle, number: q })) => {
-            write!(f, "refused {number} {vehicle} {q}")
-        }
-        _ => write!(f, "refused {number}"),
+impl From<Option<u32>> for Told {
+    fn from(number: Option<u32>) -> Told {
+        number.map_or(Told::Accepted, Told::Numbered)
     }
 }
 
@@ -70,27 +32,57 @@ fn show_request<W: fmt::Write>(request: Request, f: &mut fmt::Formatter<W>) -> f
         distance,
         entry,
     } = request;
-    let approach = approach_letter(body.approach);
-    let movement = movement_letter(body.movement);
-    let lane = body.lane;
-    let length = body.length;
-    let speed = body.speed;
+    let Body {
+        approach,
+        movement,
+        lane,
+        length,
+        speed,
+    } = body;
     write!(
         f,
         "request {vehicle} {number} {approach} {lane} {movement} {length} {speed} {distance} {entry}"
     )
 }
 
-impl fmt::Display for Answer {
+impl fmt::Display for Told {
     fn fmt<W: fmt::Write>(&self, f: &mut fmt::Formatter<W>) -> fmt::Result {
         match *self {
-            Answer::Accepted => write!(f, "ok"),
-            Answer::Refused(refusal) => show_refusal(refusal, f),
-            Answer::Released(true) => write!(f, "yes"),
-            Answer::Released(false) => write!(f, "no"),
-            Answer::Entry(Some(entry)) => write!(f, "entry {entry}"),
-            Answer::Standing(Some(request)) => show_request(request, f),
-            Answer::Entry(None) | Answer::Standing(None) => write!(f, "nothing"),
+            Told::Accepted => f.write_str("ok"),
+            Told::Numbered(number) => write!(f, "ok {number}"),
+            Told::Released(true) => f.write_str("yes"),
+            Told::Released(false) => f.write_str("no"),
+            Told::Entry(Some(entry)) => write!(f, "entry {entry}"),
+            Told::Standing(Some(request)) => show_request(request, f),
+            Told::Entry(None) | Told::Standing(None) => f.write_str("nothing"),
         }
     }
+}
+
+// A refusal as it is printed: a clash with the name of the request that is in the way.
+#[derive(Clone, Copy)]
+pub(crate) struct Refused(pub(crate) Refusal);
+
+impl fmt::Display for Refused {
+    fn fmt<W: fmt::Write>(&self, f: &mut fmt::Formatter<W>) -> fmt::Result {
+        let number = self.0.number();
+        match self.0 {
+            Refusal::Denied(Denial::Clash(Name { vehicle, number: q })) => {
+                write!(f, "refused {number} {vehicle} {q}")
+            }
+            _ => write!(f, "refused {number}"),
+        }
+    }
+}
+
+// Prints an answer, a line of its own.
+pub(crate) fn print_answer<W: Write>(
+    out: &mut W,
+    answer: Result<Told, Refusal>,
+) -> anyhow::Result<()> {
+    match answer.map_err(Refused) {
+        Ok(told) => writeln!(out, "{told}")?,
+        Err(refused) => writeln!(out, "{refused}")?,
+    }
+    Ok(())
 }

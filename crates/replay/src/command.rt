@@ -1,7 +1,7 @@
 // What a line of a script asks for.
 use super::pile::Kind;
 use super::words::Words;
-use grid::kinds::Body;
+use grid::kinds::{Approach, Body, Movement};
 use refusal::kinds::Name;
 use reservation::request::Request;
 use run::call::Call;
@@ -85,11 +85,11 @@ fn name(words: &mut Words<'_>) -> Option<Name> {
 
 // A body, its letters and numbers in the order of a script: approach, lane, movement, length, speed.
 fn body(words: &mut Words<'_>) -> Option<Body> {
-    let approach = words.approach()?;
+    let approach = Approach::try_from(words.letter()?).ok()?;
     let lane = words.number()?;
     Some(Body {
         approach,
-        movement: words.movement()?,
+        movement: Movement::try_from(words.letter()?).ok()?,
         lane,
         length: words.number()?,
         speed: words.number()?,
@@ -177,10 +177,7 @@ fn other<'a>(keyword: &[u8], words: &mut Words<'a>) -> Option<Command<'a>> {
 // What the keyword and the words after it ask for. A keyword of one kind of line is none of another, so the kinds may
 // be tried in any order.
 fn any_command<'a>(keyword: &[u8], words: &mut Words<'a>) -> Option<Command<'a>> {
-    if let Some(call) = mail_call(keyword, words) {
-        return Some(Command::Run(call));
-    }
-    if let Some(call) = vehicle_call(keyword, words) {
+    if let Some(call) = mail_call(keyword, words).or_else(|| vehicle_call(keyword, words)) {
         return Some(Command::Run(call));
     }
     if let Some(call) = policy_call(keyword, words) {

@@ -1,11 +1,11 @@
 // A run that a script plays: its memories, and the calls that are still to be made.
-use super::answer::Answer;
+use super::answer::{Told, print_answer};
 use super::memory::Memory;
 use super::pile::Pile;
 use anyhow::anyhow;
 use history::played::Unplayed;
 use refusal::kinds::Refusal;
-use run::call::{Answer as RunAnswer, Call};
+use run::call::{Answer, Call};
 use run::run::Run;
 use std::alloc::{AllocError, Global};
 use std::io::Write;
@@ -22,7 +22,7 @@ pub(crate) enum Stage {
 pub(crate) struct Game {
     pub(crate) memory: Memory,
     pub(crate) stage: Stage,
-    // the calls that are still to be made, as one list, and the lines in which they stand
+    // the calls that are still to be made, apart from the lines in which they stand: `replay` wants the calls as one slice
     calls: Vec<Call>,
     lines: Vec<u64>,
 }
@@ -53,16 +53,9 @@ impl Game {
     }
 }
 
-fn print_answers<W: Write>(out: &mut W, answers: &[RunAnswer]) -> anyhow::Result<()> {
+fn print_answers<W: Write>(out: &mut W, answers: &[Answer]) -> anyhow::Result<()> {
     for answer in answers {
-        match *answer {
-            RunAnswer::Accepted => writeln!(out, "ok")?,
-            RunAnswer::Numbered(number) => writeln!(out, "ok {number}")?,
-            RunAnswer::Refused(fault) => {
-                let refused = Answer::Refused(Refusal::Call(fault));
-                writeln!(out, "{refused}")?
-            }
-        }
+        print_answer(out, answer.map(Told::from).map_err(Refusal::from))?;
     }
     Ok(())
 }
@@ -81,16 +74,15 @@ fn open<W: Write>(
     pile: &mut Pile,
     game: &mut Game,
 ) -> anyhow::Result<Stage> {
-    match pile.replay(heap, &mut game.memory, game.calls.as_slice()) {
+    match pile.replay(heap, &mut game.memory, &game.calls) {
         Ok(played) => {
-            writeln!(out, "ok")?;
-            print_answers(out, played.answers.as_slice())?;
+            print_answer(out, Ok(Told::Accepted))?;
+            print_answers(out, &played.answers)?;
             Ok(Stage::Open(played.run))
         }
         Err(Unplayed::Refused(fault)) => {
-            let refused = Answer::Refused(Refusal::Call(fault));
-            writeln!(out, "{refused}")?;
-            print_faults(out, game.lines.as_slice())?;
+            print_answer(out, Err(fault.into()))?;
+            print_faults(out, &game.lines)?;
             Ok(Stage::Refused)
         }
         Err(Unplayed::NoMemory) => Err(anyhow!("out of memory")),
@@ -103,16 +95,11 @@ fn go_on<W: Write>(
     out: &mut W,
     pile: &mut Pile,
     game: &mut Game,
-    run: Run,
+    mut run: Run,
 ) -> anyhow::Result<Stage> {
-    let mut run = run;
-    match pile.go_on(heap, &mut run, &mut game.memory, game.calls.as_slice()) {
-        Some(answers) => {
-            print_answers(out, answers.as_slice())?;
-            Ok(Stage::Open(run))
-        }
-        None => Err(anyhow!("out of memory")),
-    }
+    let answers = pile.go_on(heap, &mut run, &mut game.memory, &game.calls)?;
+    print_answers(out, &answers)?;
+    Ok(Stage::Open(run))
 }
 
 // Makes the calls that wait, and prints what each answers.
@@ -122,12 +109,11 @@ pub(crate) fn play<W: Write>(
     pile: &mut Pile,
     game: &mut Game,
 ) -> anyhow::Result<()> {
-    let stage = match game.stage {
+    game.stage = match game.stage {
         Stage::Opening => open(heap, out, pile, game)?,
         Stage::Open(run) => go_on(heap, out, pile, game, run)?,
         Stage::Refused => Stage::Refused,
     };
-    game.stage = stage;
     game.forget();
     Ok(())
 }

@@ -9,6 +9,7 @@ mod memory;
 mod pile;
 mod policies;
 mod session;
+mod stop;
 mod telling;
 mod words;
 
@@ -18,14 +19,9 @@ use std::io::{BufWriter, Read};
 // Plays all lines of the text; the last may lack its line feed.
 fn play_all(rt: &HostRuntime, text: &[u8]) -> anyhow::Result<()> {
     let mut session = Session::new(rt.alloc(), BufWriter::new(rt.alloc(), rt.stdout())?);
-    let mut start = 0;
-    for (i, b) in text.iter().enumerate() {
-        if *b == b'\n' {
-            session.play(&text[start..i])?;
-            start = i + 1;
-        }
+    for line in text.split(|b| *b == b'\n') {
+        session.play(line)?;
     }
-    session.play(&text[start..])?;
     session.finish()
 }
 

@@ -39,12 +39,7 @@ fn blank_message() -> MessageRow {
 
 // Gives a memory so many rows: those that it has are kept as far as they fit, and new ones are blank.
 fn resize<T: Copy>(rows: &mut Vec<T>, count: u32, blank: T) -> Result<(), AllocError> {
-    let count = count.min(MOST) as usize;
-    rows.truncate(count);
-    for _ in rows.len()..count {
-        rows.push(blank)?;
-    }
-    Ok(())
+    rows.resize(count.min(MOST) as usize, blank)
 }
 
 impl Memory {
@@ -63,23 +58,16 @@ impl Memory {
     }
 
     // Makes the length in vehicle row `v` 0, if there is such a row.
-    pub(crate) fn spoil(&mut self, v: u32) -> bool {
-        if v < 1 || v as usize > self.vehicles.len() {
-            return false;
-        }
-        let place = v as usize - 1;
-        let mut row = self.vehicles[place];
+    pub(crate) fn spoil(&mut self, v: u32) -> Option<()> {
+        let row = self.vehicles.get_mut(v.checked_sub(1)? as usize)?;
         row.body.length = 0;
-        self.vehicles[place] = row;
-        true
+        Some(())
     }
 
     // Makes message row `i` one of no vehicle, if there is such a row.
-    pub(crate) fn spoil_mail(&mut self, i: u32) -> bool {
-        if i < 1 || i as usize > self.mail.len() {
-            return false;
-        }
-        self.mail[i as usize - 1] = blank_message();
-        true
+    pub(crate) fn spoil_mail(&mut self, i: u32) -> Option<()> {
+        let row = self.mail.get_mut(i.checked_sub(1)? as usize)?;
+        *row = blank_message();
+        Some(())
     }
 }

@@ -1,8 +1,9 @@
 // The six piles of policies that a script can name.
-use super::answer::{Answer, perform};
+use super::answer::Told;
 use super::command::PolicyCall;
 use super::memory::Memory;
-use super::telling::{print_places, print_run};
+use super::stop::Stop;
+use super::telling::Telling;
 use book::book::LockBook;
 use grid::junction::Junction;
 use history::played::{Played, Unplayed};
@@ -11,10 +12,9 @@ use layers::distance::Distance;
 use layers::stop_line::StopLine;
 use policy::policy::Policy;
 use reservation::request::Request;
-use run::call::{Answer as RunAnswer, Call};
+use run::call::{Answer, Call};
 use run::run::Run;
 use std::alloc::{AllocError, Global};
-use std::io::Write;
 use tile_table::table::TileTable;
 
 #[derive(Clone, Copy)]
@@ -37,7 +37,25 @@ pub(crate) enum Pile {
     DistanceStopLocks(Distance<StopLine<LockBook>>),
 }
 
-// The same code for the policy of any pile.
+// One call of any policy.
+fn perform<P: Policy>(policy: &mut P, call: &PolicyCall) -> Result<Told, Stop> {
+    Ok(match call {
+        PolicyCall::Book(request) => {
+            policy.ask(request)?;
+            Told::Accepted
+        }
+        PolicyCall::Release(name) => Told::Released(policy.release(*name)),
+        PolicyCall::Advance => {
+            policy.advance()?;
+            Told::Accepted
+        }
+        PolicyCall::Find(name) => Told::Entry(policy.find(*name)),
+        PolicyCall::At(i) => Told::Standing(policy.at(*i)),
+    })
+}
+
+// The same code for the policy of any pile. A `dyn Policy` would not do: it brings none of the laws of a policy's type, on
+// which `replay` rests.
 macro_rules! with_policy {
     ($pile:expr, $policy:ident => $code:expr) => {
         match $pile {
@@ -59,19 +77,19 @@ impl Pile {
             Kind::DistanceTiles => {
                 Pile::DistanceTiles(Distance::over(TileTable::new(heap, junction)?))
             }
-            Kind::StopLocks => Pile::StopLocks(StopLine {
-                below: LockBook::new(heap, junction)?,
-            }),
-            Kind::StopDistanceTiles => Pile::StopDistanceTiles(StopLine {
-                below: Distance::over(TileTable::new(heap, junction)?),
-            }),
-            Kind::DistanceStopLocks => Pile::DistanceStopLocks(Distance::over(StopLine {
-                below: LockBook::new(heap, junction)?,
-            })),
+            Kind::StopLocks => Pile::StopLocks(StopLine::over(LockBook::new(heap, junction)?)),
+            Kind::StopDistanceTiles => {
+                let distance = Distance::over(TileTable::new(heap, junction)?);
+                Pile::StopDistanceTiles(StopLine::over(distance))
+            }
+            Kind::DistanceStopLocks => {
+                let stop_line = StopLine::over(LockBook::new(heap, junction)?);
+                Pile::DistanceStopLocks(Distance::over(stop_line))
+            }
         })
     }
 
-    pub(crate) fn perform(&mut self, call: &PolicyCall) -> Answer {
+    pub(crate) fn perform(&mut self, call: &PolicyCall) -> Result<Told, Stop> {
         with_policy!(self, policy => perform(policy, call))
     }
 
@@ -94,30 +112,20 @@ impl Pile {
         run: &mut Run,
         memory: &mut Memory,
         calls: &[Call],
-    ) -> Option<Vec<RunAnswer>> {
+    ) -> Result<Vec<Answer>, AllocError> {
         let vehicles = memory.vehicles.as_mut_slice();
         let mail = memory.mail.as_mut_slice();
         with_policy!(self, policy => go_on(heap, run, policy, vehicles, mail, calls))
     }
 
-    // Prints what the run tells: clock, vehicles, delays and mail; or why it tells nothing.
-    pub(crate) fn print_run<W: Write>(
+    // What the run tells.
+    pub(crate) fn telling(
         &self,
-        out: &mut W,
+        heap: Global,
         run: &Run,
         memory: &Memory,
-    ) -> anyhow::Result<bool> {
-        with_policy!(self, policy => print_run(out, run, policy, memory))
-    }
-
-    // Prints on which tiles vehicles stand.
-    pub(crate) fn print_places<W: Write>(
-        &self,
-        out: &mut W,
-        run: &Run,
-        memory: &Memory,
-    ) -> anyhow::Result<()> {
-        with_policy!(self, policy => print_places(out, run, policy, memory))
+    ) -> Result<Telling, Stop> {
+        with_policy!(self, policy => Telling::of(heap, run, policy, memory))
     }
 
     pub(crate) fn clock(&self) -> u32 {
@@ -142,9 +150,9 @@ impl Pile {
     // The limits of the Distance layer, if there is one.
     pub(crate) fn limits(&self) -> Option<[u32; 8]> {
         match self {
-            Pile::DistanceTiles(layer) => Some(layer.lanes.limits),
-            Pile::StopDistanceTiles(layer) => Some(layer.below.lanes.limits),
-            Pile::DistanceStopLocks(layer) => Some(layer.lanes.limits),
+            Pile::DistanceTiles(layer) => Some(layer.own.limits),
+            Pile::StopDistanceTiles(layer) => Some(layer.below.own.limits),
+            Pile::DistanceStopLocks(layer) => Some(layer.own.limits),
             Pile::Tiles(_) | Pile::Locks(_) | Pile::StopLocks(_) => None,
         }
     }

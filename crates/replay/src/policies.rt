@@ -9,9 +9,7 @@ fn print_marks<W: Write>(out: &mut W, table: &TileTable, tick: u32) -> anyhow::R
         if let Some(vehicle) = table.mark(tile, tick)
             && vehicle != 0
         {
-            let row = tile / 8;
-            let column = tile % 8;
-            writeln!(out, "mark {tick} {row} {column} {vehicle}")?;
+            writeln!(out, "mark {tick} {} {} {vehicle}", tile / 8, tile % 8)?;
         }
     }
     Ok(())
@@ -28,13 +26,13 @@ fn print_limits<W: Write>(out: &mut W, limits: [u32; 8]) -> anyhow::Result<()> {
 
 // The standing requests, in the order granted.
 pub(crate) fn print_standing<W: Write>(out: &mut W, pile: &Pile) -> anyhow::Result<()> {
-    for i in 1..65u32 {
-        if let Some(request) = pile.at(i) {
-            let vehicle = request.vehicle;
-            let number = request.number;
-            let entry = request.entry;
-            writeln!(out, "standing {vehicle} {number} {entry}")?;
-        }
+    for request in (1..=64u32).map_while(|i| pile.at(i)) {
+        let name = request.name();
+        writeln!(
+            out,
+            "standing {} {} {}",
+            name.vehicle, name.number, request.entry
+        )?;
     }
     Ok(())
 }
@@ -55,8 +53,7 @@ pub(crate) fn print_tables<W: Write>(out: &mut W, pile: &Pile) -> anyhow::Result
 
 // All that a policy tells without a run.
 pub(crate) fn print_policy<W: Write>(out: &mut W, pile: &Pile) -> anyhow::Result<()> {
-    let clock = pile.clock();
-    writeln!(out, "clock {clock}")?;
+    writeln!(out, "clock {}", pile.clock())?;
     print_standing(out, pile)?;
     print_tables(out, pile)
 }

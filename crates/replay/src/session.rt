@@ -1,13 +1,14 @@
 // A script that is being played.
-use super::answer::Answer;
+use super::answer::{Told, print_answer};
 use super::command::{Command, Making, PolicyCall, Sizes};
 use super::game::{Game, Stage, play};
 use super::memory::Memory;
 use super::pile::Pile;
 use super::policies::{print_policy, print_standing, print_tables};
+use super::stop::Stop;
 use grid::junction::Junction;
 use lines::round::read_then_write;
-use refusal::kinds::{JunctionFault, Refusal};
+use refusal::kinds::Refusal;
 use run::call::Call;
 use run::run::Run;
 use std::alloc::Global;
@@ -33,12 +34,26 @@ fn read<W: Write>(out: &mut W, line: &[u8]) -> anyhow::Result<()> {
             writeln!(out)?;
         }
         Err(error) => {
-            let number = Refusal::Reading(error.fault).number();
-            let field = error.field;
-            let byte = error.byte;
-            writeln!(out, "line-fault {number} {field} {byte}")?;
+            let number = Refusal::from(error.fault).number();
+            writeln!(out, "line-fault {number} {} {}", error.field, error.byte)?;
         }
     }
+    Ok(())
+}
+
+// What a run and its policy tell, in the order of a script's state.
+fn print_all<W: Write>(
+    heap: Global,
+    out: &mut W,
+    pile: &Pile,
+    run: &Run,
+    memory: &Memory,
+) -> Result<(), Stop> {
+    let telling = pile.telling(heap, run, memory)?;
+    telling.print(out)?;
+    print_standing(out, pile)?;
+    telling.print_places(out)?;
+    print_tables(out, pile)?;
     Ok(())
 }
 
@@ -53,23 +68,20 @@ impl<W: Write + Drop> Session<W> {
         }
     }
 
-    fn print(&mut self, answer: Answer) -> anyhow::Result<()> {
-        writeln!(self.out, "{answer}")?;
-        Ok(())
+    // The memory of the run, if there is one.
+    fn memory(&mut self) -> Result<&mut Memory, Stop> {
+        let game = self.game.as_mut().ok_or(Stop::Fault)?;
+        Ok(&mut game.memory)
     }
 
-    fn fault(&mut self) -> anyhow::Result<()> {
-        let line = self.line;
-        writeln!(self.out, "fault {line}")?;
+    fn accept(&mut self) -> Result<(), Stop> {
+        print_answer(&mut self.out, Ok(Told::Accepted))?;
         Ok(())
     }
 
     // Makes the calls that wait. A run that was refused is none.
     fn catch_up(&mut self) -> anyhow::Result<()> {
-        let Some(pile) = &mut self.pile else {
-            return Ok(());
-        };
-        let Some(game) = &mut self.game else {
+        let (Some(pile), Some(game)) = (&mut self.pile, &mut self.game) else {
             return Ok(());
         };
         play(self.heap, &mut self.out, pile, game)?;
@@ -80,116 +92,105 @@ impl<W: Write + Drop> Session<W> {
     }
 
     // Makes a policy in the place of what was there; one that is refused leaves none.
-    fn make(&mut self, making: Making) -> anyhow::Result<Result<(), JunctionFault>> {
+    fn make(&mut self, making: Making) -> Result<(), Stop> {
         self.pile = None;
         self.game = None;
-        match Junction::new(making.lanes, making.buffer) {
-            Ok(junction) => {
-                self.pile = Some(Pile::new(self.heap, junction, making.kind)?);
-                Ok(Ok(()))
-            }
-            Err(fault) => Ok(Err(fault)),
-        }
+        let junction = Junction::new(making.lanes, making.buffer)?;
+        self.pile = Some(Pile::new(self.heap, junction, making.kind)?);
+        Ok(())
     }
 
-    fn make_policy(&mut self, making: Making) -> anyhow::Result<()> {
-        match self.make(making)? {
-            Ok(()) => self.print(Answer::Accepted),
-            Err(fault) => self.print(Answer::Refused(Refusal::Making(fault))),
-        }
+    fn make_policy(&mut self, making: Making) -> Result<(), Stop> {
+        self.make(making)?;
+        self.accept()
     }
 
     // The run itself is opened with the calls that follow.
-    fn open(&mut self, making: Making, sizes: Sizes) -> anyhow::Result<()> {
-        match self.make(making)? {
-            Ok(()) => {
-                let memory = Memory::new(self.heap, sizes)?;
-                self.game = Some(Game::new(self.heap, memory));
-                Ok(())
-            }
-            Err(fault) => self.print(Answer::Refused(Refusal::Making(fault))),
-        }
+    fn open(&mut self, making: Making, sizes: Sizes) -> Result<(), Stop> {
+        self.make(making)?;
+        let memory = Memory::new(self.heap, sizes)?;
+        self.game = Some(Game::new(self.heap, memory));
+        Ok(())
     }
 
-    fn ask(&mut self, call: PolicyCall) -> anyhow::Result<()> {
-        let Some(pile) = &mut self.pile else {
-            return self.fault();
-        };
-        let answer = pile.perform(&call);
-        self.print(answer)
+    fn ask(&mut self, call: PolicyCall) -> Result<(), Stop> {
+        let pile = self.pile.as_mut().ok_or(Stop::Fault)?;
+        let told = pile.perform(&call)?;
+        print_answer(&mut self.out, Ok(told))?;
+        Ok(())
     }
 
     // A run call waits until another line has to be played, or there are many.
-    fn note(&mut self, call: Call) -> anyhow::Result<()> {
-        let Some(game) = &mut self.game else {
-            return self.fault();
-        };
+    fn note(&mut self, call: Call) -> Result<(), Stop> {
+        let game = self.game.as_mut().ok_or(Stop::Fault)?;
         if game.note(call, self.line)? {
-            return self.catch_up();
+            self.catch_up()?;
         }
         Ok(())
     }
 
-    fn print_state(&mut self) -> anyhow::Result<()> {
-        let Some(pile) = &self.pile else {
-            return self.fault();
-        };
+    fn print_state(&mut self) -> Result<(), Stop> {
+        let pile = self.pile.as_ref().ok_or(Stop::Fault)?;
         let Some(game) = &self.game else {
-            return print_policy(&mut self.out, pile);
+            print_policy(&mut self.out, pile)?;
+            return Ok(());
         };
         if let Stage::Open(run) = game.stage {
-            print_all(&mut self.out, pile, &run, &game.memory)?;
+            print_all(self.heap, &mut self.out, pile, &run, &game.memory)?;
         }
         Ok(())
     }
 
-    // Lends other memories, or spoils a row, and says whether that could be done.
-    fn alter(&mut self, command: Command<'_>) -> anyhow::Result<()> {
-        let Some(game) = &mut self.game else {
-            return self.fault();
-        };
-        let done = match command {
-            Command::Memory(sizes) => {
-                game.memory.resize(sizes)?;
-                true
-            }
-            Command::Spoil(v) => game.memory.spoil(v),
-            Command::SpoilMail(i) => game.memory.spoil_mail(i),
-            _ => false,
-        };
-        if done {
-            self.print(Answer::Accepted)
-        } else {
-            self.fault()
-        }
+    // Lends other memories.
+    fn resize(&mut self, sizes: Sizes) -> Result<(), Stop> {
+        self.memory()?.resize(sizes)?;
+        self.accept()
     }
 
-    fn obey(&mut self, command: Command<'_>) -> anyhow::Result<()> {
+    fn spoil(&mut self, v: u32) -> Result<(), Stop> {
+        self.memory()?.spoil(v).ok_or(Stop::Fault)?;
+        self.accept()
+    }
+
+    fn spoil_mail(&mut self, i: u32) -> Result<(), Stop> {
+        self.memory()?.spoil_mail(i).ok_or(Stop::Fault)?;
+        self.accept()
+    }
+
+    fn obey(&mut self, command: Command<'_>) -> Result<(), Stop> {
         match command {
-            Command::Read(line) => read(&mut self.out, line),
+            Command::Read(line) => Ok(read(&mut self.out, line)?),
             Command::Policy(making) => self.make_policy(making),
             Command::Open(making, sizes) => self.open(making, sizes),
             Command::Run(call) => self.note(call),
             Command::Ask(call) => self.ask(call),
             Command::State => self.print_state(),
-            _ => self.alter(command),
+            Command::Memory(sizes) => self.resize(sizes),
+            Command::Spoil(v) => self.spoil(v),
+            Command::SpoilMail(i) => self.spoil_mail(i),
         }
+    }
+
+    // Does what the line asks for. The calls that wait are made first, unless it is one more.
+    fn answer(&mut self, line: &[u8]) -> Result<(), Stop> {
+        let command = Command::of(line);
+        if !matches!(command, Some(Command::Run(_))) {
+            self.catch_up()?;
+        }
+        self.obey(command.ok_or(Stop::Fault)?)
     }
 
     // Plays one line, and prints what it answers.
     pub(crate) fn play(&mut self, line: &[u8]) -> anyhow::Result<()> {
         self.line = self.line.saturating_add(1);
-        if line.is_empty() || line[0] == b'#' {
+        if line.first().is_none_or(|first| *first == b'#') {
             return Ok(());
         }
-        let command = Command::of(line);
-        if let Some(Command::Run(call)) = command {
-            return self.note(call);
-        }
-        self.catch_up()?;
-        match command {
-            Some(command) => self.obey(command),
-            None => self.fault(),
+        match self.answer(line) {
+            Ok(()) => Ok(()),
+            Err(Stop::Refused(refusal)) => print_answer(&mut self.out, Err(refusal)),
+            Err(Stop::Fault) => Ok(writeln!(self.out, "fault {}", self.line)?),
+            Err(Stop::Broken(error)) => Err(error),
         }
     }
 
@@ -199,14 +200,4 @@ impl<W: Write + Drop> Session<W> {
         self.out.flush()?;
         Ok(())
     }
-}
-
-// What a run and its policy tell, in the order of a script's state.
-fn print_all<W: Write>(out: &mut W, pile: &Pile, run: &Run, memory: &Memory) -> anyhow::Result<()> {
-    if pile.print_run(out, run, memory)? {
-        print_standing(out, pile)?;
-        pile.print_places(out, run, memory)?;
-        print_tables(out, pile)?;
-    }
-    Ok(())
 }

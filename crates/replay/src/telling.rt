@@ -1,177 +1,152 @@
-// What a run tells, printed.
-use super::answer::{Answer, approach_letter, movement_letter};
+// What a run tells, and how that is printed.
 use super::memory::Memory;
+use super::stop::Stop;
+use grid::kinds::Body;
 use grid::tiles::TileSet;
+use lent::scene::Scene;
 use lines::writing::write;
+use message::message::Message;
 use policy::policy::Policy;
-use readings::reading::{message_at, moment, vehicle_at};
-use refusal::kinds::Refusal;
+use readings::reading::moment;
 use run::run::Run;
+use std::alloc::Global;
+use std::fmt;
 use std::io::Write;
-use vehicle::rows::{Claim, State};
+use vehicle::rows::{Claim, State, VehicleRow};
 use vehicle::vehicle::Vehicle;
 
-// A state, with what it carries.
-fn print_state<W: Write>(out: &mut W, state: State) -> anyhow::Result<()> {
-    match state {
-        State::Idle => writeln!(out, "Idle")?,
-        State::Asking(Claim { number, entry }) => writeln!(out, "Asking {number} {entry}")?,
-        State::Holding(Claim { number, entry }) => writeln!(out, "Holding {number} {entry}")?,
-        State::Changing { held, awaited } => {
-            let Claim { number, entry } = held;
-            let next = awaited.number;
-            let then = awaited.entry;
-            writeln!(out, "Changing {number} {entry} {next} {then}")?
-        }
-        State::Crossing { held, lag, nudged } => {
-            let Claim { number, entry } = held;
-            writeln!(out, "Crossing {number} {entry} {lag} {nudged}")?
-        }
-        State::Done { tick } => writeln!(out, "Done {tick}")?,
+// The clock of a run, and its vehicles and messages, each by number.
+#[derive(Drop)]
+pub(crate) struct Telling {
+    clock: u32,
+    vehicles: Vec<Vehicle>,
+    mail: Vec<Message>,
+}
+
+// A claim as it is printed, and a state with what it carries.
+#[derive(Clone, Copy)]
+struct ShownClaim(Claim);
+
+#[derive(Clone, Copy)]
+struct ShownState(State);
+
+impl fmt::Display for ShownClaim {
+    fn fmt<W: fmt::Write>(&self, f: &mut fmt::Formatter<W>) -> fmt::Result {
+        let Claim { number, entry } = self.0;
+        write!(f, "{number} {entry}")
     }
-    Ok(())
+}
+
+impl fmt::Display for ShownState {
+    fn fmt<W: fmt::Write>(&self, f: &mut fmt::Formatter<W>) -> fmt::Result {
+        match self.0 {
+            State::Idle => f.write_str("Idle"),
+            State::Asking(claim) => write!(f, "Asking {}", ShownClaim(claim)),
+            State::Holding(claim) => write!(f, "Holding {}", ShownClaim(claim)),
+            State::Changing { held, awaited } => {
+                write!(f, "Changing {} {}", ShownClaim(held), ShownClaim(awaited))
+            }
+            State::Crossing { held, lag, nudged } => {
+                write!(f, "Crossing {} {lag} {nudged}", ShownClaim(held))
+            }
+            State::Done { tick } => write!(f, "Done {tick}"),
+        }
+    }
 }
 
 // A vehicle's record.
-fn print_vehicle<W: Write>(out: &mut W, v: u32, vehicle: &Vehicle) -> anyhow::Result<()> {
-    let row = vehicle.row;
-    let approach = approach_letter(row.body.approach);
-    let lane = row.body.lane;
-    let movement = movement_letter(row.body.movement);
-    let length = row.body.length;
-    let speed = row.body.speed;
+fn print_vehicle<W: Write>(out: &mut W, v: u32, row: VehicleRow) -> anyhow::Result<()> {
+    let Body {
+        approach,
+        movement,
+        lane,
+        length,
+        speed,
+    } = row.body;
     write!(
         out,
         "vehicle {v} {approach} {lane} {movement} length {length} speed {speed} "
     )?;
-    let distance = row.distance;
-    let first = row.first_distance;
-    let arrived = row.arrival;
-    let used = row.used;
-    let heard = row.heard;
-    write!(
+    let VehicleRow {
+        distance,
+        first_distance: first,
+        arrival,
+        used,
+        heard,
+        ..
+    } = row;
+    let state = ShownState(row.state);
+    writeln!(
         out,
-        "distance {distance} first {first} arrived {arrived} used {used} heard {heard} "
+        "distance {distance} first {first} arrived {arrival} used {used} heard {heard} {state}"
     )?;
-    print_state(out, row.state)
-}
-
-// Every vehicle's record, by number.
-fn print_vehicles<P: Policy, W: Write>(
-    out: &mut W,
-    run: &Run,
-    policy: &P,
-    memory: &Memory,
-) -> anyhow::Result<()> {
-    let vehicles = memory.vehicles.as_slice();
-    let mail = memory.mail.as_slice();
-    for v in 1..1025u32 {
-        let Ok(vehicle) = vehicle_at(run, policy, vehicles, mail, v) else {
-            break;
-        };
-        print_vehicle(out, v, &vehicle)?;
-    }
     Ok(())
 }
 
-// The delay of every vehicle that is done.
-fn print_delays<P: Policy, W: Write>(
-    out: &mut W,
-    run: &Run,
-    policy: &P,
-    memory: &Memory,
-) -> anyhow::Result<()> {
-    let vehicles = memory.vehicles.as_slice();
-    let mail = memory.mail.as_slice();
-    for v in 1..1025u32 {
-        let Ok(vehicle) = vehicle_at(run, policy, vehicles, mail, v) else {
-            break;
-        };
-        if let Some(delay) = vehicle.delay() {
-            writeln!(out, "delay {v} {delay}")?;
-        }
+// A message as a line.
+fn print_message<W: Write>(out: &mut W, i: u32, message: &Message) -> anyhow::Result<()> {
+    let mut line = [0; 64];
+    if let Ok(count) = write(message, &mut line) {
+        write!(out, "mail {i} ")?;
+        out.write_all(line.get(0..count).unwrap_or(&[]))?;
+        writeln!(out)?;
     }
     Ok(())
-}
-
-// Every message, in order, as a line.
-fn print_mail<P: Policy, W: Write>(
-    out: &mut W,
-    run: &Run,
-    policy: &P,
-    memory: &Memory,
-) -> anyhow::Result<()> {
-    let vehicles = memory.vehicles.as_slice();
-    let mail = memory.mail.as_slice();
-    for i in 1..257u32 {
-        let Ok(message) = message_at(run, policy, vehicles, mail, i) else {
-            break;
-        };
-        let mut line = [0; 64];
-        if let Ok(count) = write(&message, &mut line) {
-            write!(out, "mail {i} ")?;
-            out.write_all(line.get(0..count).unwrap_or(&[]))?;
-            writeln!(out)?;
-        }
-    }
-    Ok(())
-}
-
-// The clock, vehicles, delays and mail; or why the run tells nothing.
-pub(crate) fn print_run<P: Policy, W: Write>(
-    out: &mut W,
-    run: &Run,
-    policy: &P,
-    memory: &Memory,
-) -> anyhow::Result<bool> {
-    match moment(
-        run,
-        policy,
-        memory.vehicles.as_slice(),
-        memory.mail.as_slice(),
-    ) {
-        Ok(moment) => {
-            let clock = moment.clock;
-            writeln!(out, "clock {clock}")?;
-            print_vehicles(out, run, policy, memory)?;
-            print_delays(out, run, policy, memory)?;
-            print_mail(out, run, policy, memory)?;
-            Ok(true)
-        }
-        Err(fault) => {
-            let refused = Answer::Refused(Refusal::Call(fault));
-            writeln!(out, "{refused}")?;
-            Ok(false)
-        }
-    }
 }
 
 // The tiles on which a vehicle stands, by row and column.
 fn print_tiles<W: Write>(out: &mut W, v: u32, tiles: TileSet) -> anyhow::Result<()> {
-    for tile in 0..64u32 {
-        if tiles.has(tile) {
-            let row = tile / 8;
-            let column = tile % 8;
-            writeln!(out, "on {v} {row} {column}")?;
-        }
+    for tile in (0..64u32).filter(|tile| tiles.has(*tile)) {
+        writeln!(out, "on {v} {} {}", tile / 8, tile % 8)?;
     }
     Ok(())
 }
 
-// The same of every vehicle.
-pub(crate) fn print_places<P: Policy, W: Write>(
-    out: &mut W,
-    run: &Run,
-    policy: &P,
-    memory: &Memory,
-) -> anyhow::Result<()> {
-    let vehicles = memory.vehicles.as_slice();
-    let mail = memory.mail.as_slice();
-    for v in 1..1025u32 {
-        let Ok(vehicle) = vehicle_at(run, policy, vehicles, mail, v) else {
-            break;
+impl Telling {
+    pub(crate) fn of<P: Policy>(
+        heap: Global,
+        run: &Run,
+        policy: &P,
+        memory: &Memory,
+    ) -> Result<Telling, Stop> {
+        let scene = Scene {
+            run,
+            policy,
+            vehicles: memory.vehicles.as_slice(),
+            mail: memory.mail.as_slice(),
         };
-        print_tiles(out, v, vehicle.tiles(run.clock))?;
+        let clock = moment(&scene)?.clock;
+        let records = (1..=1024u32).map_while(|v| scene.vehicle(v).ok());
+        let messages = (1..=256u32).map_while(|i| scene.message(i).ok());
+        Ok(Telling {
+            clock,
+            vehicles: records.collect(heap)?,
+            mail: messages.collect(heap)?,
+        })
     }
-    Ok(())
+
+    // Prints the clock, the vehicles, the delay of every vehicle that is done, and the mail.
+    pub(crate) fn print<W: Write>(&self, out: &mut W) -> anyhow::Result<()> {
+        writeln!(out, "clock {}", self.clock)?;
+        for (v, vehicle) in (1u32..).zip(&self.vehicles) {
+            print_vehicle(out, v, vehicle.row)?;
+        }
+        for (v, vehicle) in (1u32..).zip(&self.vehicles) {
+            if let Some(delay) = vehicle.delay() {
+                writeln!(out, "delay {v} {delay}")?;
+            }
+        }
+        for (i, message) in (1u32..).zip(&self.mail) {
+            print_message(out, i, message)?;
+        }
+        Ok(())
+    }
+
+    // Prints on which tiles each vehicle stands.
+    pub(crate) fn print_places<W: Write>(&self, out: &mut W) -> anyhow::Result<()> {
+        for (v, vehicle) in (1u32..).zip(&self.vehicles) {
+            print_tiles(out, v, vehicle.tiles(self.clock))?;
+        }
+        Ok(())
+    }
 }

@@ -1,8 +1,5 @@
 // The words of a line, which single spaces part, and what stands for a number or a letter.
-ghost use Rattle.std.specs.Prelude.{◌≤◌, length, pos, ◌≤ℤ◌, IfSome};
-
 use fields::numbers::read_number;
-use grid::kinds::{Approach, Movement};
 
 #[derive(Drop)]
 pub(crate) struct Words<'a> {
@@ -10,28 +7,10 @@ pub(crate) struct Words<'a> {
     rest: Option<&'a [u8]>,
 }
 
-// How many bytes the first word has.
-fn word_len(rest: &[u8]) -> usize
-    ensures { result ≤ length rest.now }
-{
-    for (i, b) in rest.iter().enumerate() {
-        if *b == b' ' {
-            return i;
-        }
-    }
-    rest.len()
-}
-
 // A number from 1 to 99.
-fn ticks_of(digits: &[u8]) -> Option<i32>
-    ensures { IfSome result (λ n. (pos 1 ≤ℤ n) × (n ≤ℤ pos 99)) }
-{
-    let number = read_number(digits)?;
-    if number >= 1 && number <= 99 {
-        Some(number as i32)
-    } else {
-        None
-    }
+fn ticks_of(digits: &[u8]) -> Option<i32> {
+    let number = i32::try_from(read_number(digits)?).ok()?;
+    (1..=99).contains(&number).then_some(number)
 }
 
 impl<'a> Words<'a> {
@@ -40,35 +19,20 @@ impl<'a> Words<'a> {
     }
 
     pub(crate) fn word(&mut self) -> Option<&'a [u8]> {
-        let rest = self.rest?;
-        let len = word_len(rest);
-        self.rest = if len < rest.len() {
-            Some(&rest[len + 1..])
-        } else {
-            None
-        };
-        Some(&rest[0..len])
+        let mut parts = self.rest?.splitn(2, |b| *b == b' ');
+        let word = parts.next();
+        self.rest = parts.next();
+        word
     }
 
     pub(crate) fn number(&mut self) -> Option<u32> {
         read_number(self.word()?)
     }
 
-    pub(crate) fn approach(&mut self) -> Option<Approach> {
+    // A word of one letter.
+    pub(crate) fn letter(&mut self) -> Option<char> {
         match self.word()? {
-            b"N" => Some(Approach::North),
-            b"E" => Some(Approach::East),
-            b"S" => Some(Approach::South),
-            b"W" => Some(Approach::West),
-            _ => None,
-        }
-    }
-
-    pub(crate) fn movement(&mut self) -> Option<Movement> {
-        match self.word()? {
-            b"L" => Some(Movement::Left),
-            b"T" => Some(Movement::Through),
-            b"R" => Some(Movement::Right),
+            [letter] => Some(char::from(*letter)),
             _ => None,
         }
     }
@@ -78,7 +42,7 @@ impl<'a> Words<'a> {
         match self.word()? {
             b"0" => Some(0),
             [b'+', digits @ ..] => ticks_of(digits),
-            [b'-', digits @ ..] => Some(-ticks_of(digits)?),
+            [b'-', digits @ ..] => ticks_of(digits)?.checked_neg(),
             _ => None,
         }
     }
@@ -89,13 +53,7 @@ impl<'a> Words<'a> {
     }
 
     // The command, if no word is left.
-    pub(crate) fn end<T>(self, command: T) -> Option<T>
-    where
-        T: Drop,
-    {
-        match self.rest {
-            None => Some(command),
-            Some(_) => None,
-        }
+    pub(crate) fn end<T: Drop>(self, command: T) -> Option<T> {
+        self.rest.is_none().then_some(command)
     }
 }

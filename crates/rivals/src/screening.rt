@@ -10,7 +10,8 @@ use refusal::kinds::{Denial, Reason};
 use reservation::footprint::Footprint;
 use reservation::request::Request;
 
-// Refuses the request whoever else stands: for its range or its time, or because its name stands.
+// Refuses the request whoever else stands: for its range or its time, or because its name stands. Apart from
+// `screened`, so that an edit of what is asked is refused here and not in a proof.
 fn stop(junction: Junction, clock: u32, ledger: &Ledger, request: &Request) -> Result<(), Reason>
     ensures { Stopped (told junction clock ledger.now) None request.now result }
 {

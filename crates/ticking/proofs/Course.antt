@@ -19,11 +19,10 @@ use Rattle.ticking.proofs.Ahead.{Seen, lane_below, seen_push}
 use Rattle.ticking.proofs.Posts.{dones-push, posting_none, posting_push}
 
 -- the first i vehicles are over the tick, and the others as they were
-pub record Course (j : Junction) (clock : ℕ) (vs vs' : List VehicleRow) (ms ms' : List MessageRow) (places : List (Option ℕ)) (sent count number i : ℕ) : Type 0 where
+pub record Course (j : Junction) (clock : ℕ) (vs vs' : List VehicleRow) (ms ms' : List MessageRow) (places : List (Option ℕ)) (sent count i : ℕ) : Type 0 where
   pub rows : (v : ℕ) → 1 ≤ v → v ≤ i → Turned j clock (ahead_of vs v) (row_of vs v) (row_of vs' v)
   pub rest : drop i vs' ≡ drop i vs
   pub seen : Seen places (take i vs)
-  pub number_is : number ≡ i
   pub mail : Posting ms sent (dones 1 (take i vs) (take i vs')) ms' count
 
 turned_behind : (j : Junction) (clock : ℕ) (place : Option ℕ) (ahead : Option VehicleRow) (r r' : VehicleRow) → TurnedAt j clock place r r' → place ≡ option_map place_behind_of ahead → Turned j clock ahead r r'
@@ -38,18 +37,17 @@ turned_behind j clock place ahead r r' t e = record {
 }
 
 module _ (j : Junction) (clock : ℕ) (vs : List VehicleRow) (ms : List MessageRow) (sent : ℕ) (fit : Fit j vs ms sent) where
-  pub course_none : (places : List (Option ℕ)) → ((lane : ℕ) → get_or places lane None ≡ None) → Course j clock vs vs ms ms places sent sent 0 0
+  pub course_none : (places : List (Option ℕ)) → ((lane : ℕ) → get_or places lane None ≡ None) → Course j clock vs vs ms ms places sent sent 0
   course_none places none = record {
     rows = λ v some le. absurd (let k : ⊥ = omega arith in k);
     rest = refl;
     seen = λ lane lt. none lane;
-    number_is = refl;
     mail = posting_none ms sent fit.within;
   }
 
-  module _ (vs' : List VehicleRow) (ms' : List MessageRow) (places : List (Option ℕ)) (count number i : ℕ) (so_far : Course j clock vs vs' ms ms' places sent count number i)
+  module _ (vs' : List VehicleRow) (ms' : List MessageRow) (places : List (Option ℕ)) (count i : ℕ) (so_far : Course j clock vs vs' ms ms' places sent count i)
       (within : i < length vs') (long : length vs' ≡ length vs) (eight : length places ≡ 8)
-      (r r' : VehicleRow) (here : r ≡ get_or vs' i blank) (places' : List (Option ℕ)) (ended : Bool) (passed : Passed j clock places places' r r' ended) (next : ℕ) (next-is : next ≡ i + 1) where
+      (r r' : VehicleRow) (here : r ≡ get_or vs' i blank) (places' : List (Option ℕ)) (ended : Bool) (passed : Passed j clock places places' r r' ended) where
     was_here : r ≡ get_or vs i blank
     was_here =
         let z : i ≡ i + 0 = omega arith in
@@ -94,39 +92,38 @@ module _ (j : Junction) (clock : ℕ) (vs : List VehicleRow) (ms : List MessageR
     seen_on : Seen places' (take (i + 1) vs)
     seen_on = subst (λ ps. Seen ps (take (i + 1) vs)) (sym passed.seen) (subst (Seen (noted places r)) (sym before_on) (seen_push places (take i vs) r eight so_far.seen))
 
-    dones_on : dones 1 (take (i + 1) vs) (take (i + 1) (set vs' i r')) ≡ dones 1 (take i vs) (take i vs') ++ cond ended (message.Done next ∷ []) []
+    dones_on : dones 1 (take (i + 1) vs) (take (i + 1) (set vs' i r')) ≡ dones 1 (take i vs) (take i vs') ++ cond ended (message.Done (i + 1) ∷ []) []
     dones_on =
         let same : length (take i vs) ≡ length (take i vs') = length-take-le i vs (omega arith) ∙ sym (length-take-le i vs' (omega arith)) in
-        let this : 1 + length (take i vs) ≡ next = omega (arith, length-take-le i vs (omega arith)) in
+        let this : 1 + length (take i vs) ≡ i + 1 = omega (arith, length-take-le i vs (omega arith)) in
         ap (λ rs. dones 1 rs (take (i + 1) (set vs' i r'))) before_on ∙ ap (dones 1 (take i vs ++ r ∷ [])) after_on
         ∙ dones-push 1 (take i vs) (take i vs') r r' same
         ∙ ap (λ k. dones 1 (take i vs) (take i vs') ++ cond (finished r r') (message.Done k ∷ []) []) this
-        ∙ ap (λ b. dones 1 (take i vs) (take i vs') ++ cond b (message.Done next ∷ []) []) (sym passed.ended_is)
+        ∙ ap (λ b. dones 1 (take i vs) (take i vs') ++ cond b (message.Done (i + 1) ∷ []) []) (sym passed.ended_is)
 
-    course_on : (ms'' : List MessageRow) (count' : ℕ) → Posting ms sent (dones 1 (take i vs) (take i vs') ++ cond ended (message.Done next ∷ []) []) ms'' count'
-        → Course j clock vs (set vs' i r') ms ms'' places' sent count' next (i + 1)
+    course_on : (ms'' : List MessageRow) (count' : ℕ) → Posting ms sent (dones 1 (take i vs) (take i vs') ++ cond ended (message.Done (i + 1) ∷ []) []) ms'' count'
+        → Course j clock vs (set vs' i r') ms ms'' places' sent count' (i + 1)
     course_on ms'' count' p = record {
       rows = rows_on;
       rest = rest_on;
       seen = seen_on;
-      number_is = next-is;
       mail = subst (λ xs. Posting ms sent xs ms'' count') (sym dones_on) p;
     }
 
     -- a DONE was put behind the messages, or nothing was
-    pub course_more : length ms' ≡ length ms → (ms'' : List MessageRow) (count' : ℕ) → MatchBool ended (Posted ms' count (message.Done next) ms'' count') ((ms'' ≡ ms') × (count' ≡ count))
-        → Course j clock vs (set vs' i r') ms ms'' places' sent count' next (i + 1)
+    pub course_more : length ms' ≡ length ms → (ms'' : List MessageRow) (count' : ℕ) → MatchBool ended (Posted ms' count (message.Done (i + 1)) ms'' count') ((ms'' ≡ ms') × (count' ≡ count))
+        → Course j clock vs (set vs' i r') ms ms'' places' sent count' (i + 1)
     course_more same ms'' count' sends =
         let before = dones 1 (take i vs) (take i vs') in
         course_on ms'' count'
-        (elim ended as (λ b. MatchBool b (Posted ms' count (message.Done next) ms'' count') ((ms'' ≡ ms') × (count' ≡ count)) → Posting ms sent (before ++ cond b (message.Done next ∷ []) []) ms'' count') [
-          | true ↦ posting_push ms sent fit.within before ms' count so_far.mail (message.Done next) ms'' count' same
+        (elim ended as (λ b. MatchBool b (Posted ms' count (message.Done (i + 1)) ms'' count') ((ms'' ≡ ms') × (count' ≡ count)) → Posting ms sent (before ++ cond b (message.Done (i + 1) ∷ []) []) ms'' count') [
+          | true ↦ posting_push ms sent fit.within before ms' count so_far.mail (message.Done (i + 1)) ms'' count' same
           | false ↦ λ still. simp (append-nil, still.0, still.1) so_far.mail
         ] sends)
 
-  pub course_all : (vs' : List VehicleRow) (ms' : List MessageRow) (places : List (Option ℕ)) (count number i : ℕ) → Course j clock vs vs' ms ms' places sent count number i
+  pub course_all : (vs' : List VehicleRow) (ms' : List MessageRow) (places : List (Option ℕ)) (count i : ℕ) → Course j clock vs vs' ms ms' places sent count i
       → length vs' ≡ length vs → length vs ≤ i → TurnedAll j clock vs vs' ms ms' sent count
-  course_all vs' ms' places count number i whole same end =
+  course_all vs' ms' places count i whole same end =
       let before : take i vs ≡ vs = take_all i vs end in
       let after : take i vs' ≡ vs' = take_all i vs' (omega arith) in
       record {

@@ -18,10 +18,7 @@ fn closer_by(row: &VehicleRow, place: Option<u64>) -> u32
     ensures { result ≡ closer row.now place }
 {
     let on = row.distance.saturating_sub(row.body.speed);
-    match place {
-        None => on,
-        Some(place) => (row.distance as u64).min((on as u64).max(place)) as u32,
-    }
+    (row.distance as u64).min((on as u64).max(place.unwrap_or(0))) as u32
 }
 
 // The same, for any vehicle: who is not in lane keeps its distance.

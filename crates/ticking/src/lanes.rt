@@ -21,16 +21,7 @@ impl Lanes {
         Lanes { behind: [None; 8] }
     }
 
-    fn at(&self, lane: u64) -> Option<u64>
-        ensures { result ≡ slice_index_or self.now.behind lane None }
-    {
-        if lane < 8 {
-            self.behind[lane as usize]
-        } else {
-            None
-        }
-    }
-
+    // Not by `get_mut`: of what it lends, no proof knows the lanes afterwards.
     fn put(&mut self, lane: u64, place: u64)
         ensures { self.new.behind ≡ slice_set self.old.behind lane (Some place) }
     {
@@ -43,7 +34,8 @@ impl Lanes {
     pub(crate) fn place_ahead(&self, row: &VehicleRow) -> Option<u64>
         ensures { result ≡ slice_index_or self.now.behind (lane_number_of row.now.body) None }
     {
-        self.at(row.body.lane_number())
+        let lane = row.body.lane_number() as usize;
+        self.behind.get(lane).copied().flatten()
     }
 
     // Notes this vehicle's place, if it is in lane.

@@ -6,24 +6,16 @@ ghost use Rattle.vehicle.specs.declared.rows.Claim.{Claim};
 ghost use Rattle.run.specs.Ticks.{Enters, Over, Turns, finished};
 ghost use Rattle.ticking.specs.Turning.{Ends};
 
-use grid::junction::Junction;
-use grid::kinds::Body;
 use grid::path::Path;
+use vehicle::now::Now;
 use vehicle::rows::{Claim, State, VehicleRow};
 
 // What a vehicle enters on that has its first tick now.
-fn entering(junction: Junction, clock: u32, state: &State) -> Option<Claim>
-    ensures { MatchOption result ((held : Claim) → Enters junction clock state.now held → ⊥) (Enters junction clock state.now) }
+fn entering(now: Now, state: &State) -> Option<Claim>
+    ensures { MatchOption result ((held : Claim) → Enters now.junction now.clock state.now held → ⊥) (Enters now.junction now.clock state.now) }
 {
-    if !state.in_lane() {
-        return None;
-    }
     let held = state.held()?;
-    if held.entry as u64 == clock as u64 + junction.buffer as u64 {
-        Some(held)
-    } else {
-        None
-    }
+    (state.in_lane() && now.begins(held)).then_some(held)
 }
 
 // Whether a crossing of that duration is over.
@@ -34,43 +26,42 @@ fn is_over(duration: u32, clock: u32, held: Claim, lag: i32) -> bool
     end + lag as i64 <= clock as i64
 }
 
-// Whether the vehicle has come to its end.
-fn is_ending(junction: Junction, clock: u32, body: Body, state: State) -> bool
-    ensures { fits junction.lanes body ≡ true → Decides result (Ends (duration_of junction.lanes body) clock state) }
+// Whether the vehicle has come to its end. Here and below a row whose body fits, and no record of a vehicle: to make
+// one, every row would have to be checked at every tick.
+fn is_ending(now: Now, row: &VehicleRow) -> bool
+    ensures { fits now.junction.lanes row.now.body ≡ true → Decides result (Ends (duration_of now.junction.lanes row.now.body) now.clock row.now.state) }
 {
-    let State::Crossing { held, lag, .. } = state else {
+    let State::Crossing { held, lag, .. } = row.state else {
         return false;
     };
-    match Path::of(junction, body) {
-        Some(path) => is_over(path.duration, clock, held, lag),
-        None => false,
-    }
+    Path::of(now.junction, row.body).is_some_and(|path| is_over(
+        path.duration,
+        now.clock,
+        held,
+        lag,
+    ))
 }
 
 // The state after the tick.
-pub(crate) fn state_after(junction: Junction, clock: u32, body: Body, state: State) -> State
-    ensures { fits junction.lanes body ≡ true → Turns junction (duration_of junction.lanes body) clock state result }
+pub(crate) fn state_after(now: Now, row: &VehicleRow) -> State
+    ensures { fits now.junction.lanes row.now.body ≡ true → Turns now.junction (duration_of now.junction.lanes row.now.body) now.clock row.now.state result }
 {
-    if let Some(held) = entering(junction, clock, &state) {
+    if let Some(held) = entering(now, &row.state) {
         return State::Crossing {
             held,
             lag: 0,
             nudged: 0,
         };
     }
-    if is_ending(junction, clock, body, state) {
-        return State::Done { tick: clock };
+    if is_ending(now, row) {
+        return State::Done { tick: now.clock };
     }
-    state
+    row.state
 }
 
 // Whether the vehicle came to be Done.
 pub(crate) fn has_finished(old: &VehicleRow, new: &VehicleRow) -> bool
     ensures { result ≡ finished old.now new.now }
 {
-    match (old.state, new.state) {
-        (State::Done { .. }, _) => false,
-        (_, State::Done { .. }) => true,
-        _ => false,
-    }
+    !matches!(old.state, State::Done { .. }) && matches!(new.state, State::Done { .. })
 }

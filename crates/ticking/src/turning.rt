@@ -6,31 +6,31 @@ ghost use Rattle.ticking.specs.Turning.{Fit, Passed, Posted, TurnedAll, TurnedAt
 use super::distances::distance_after;
 use super::lanes::Lanes;
 use super::states::{has_finished, state_after};
-use grid::junction::Junction;
 use message::row::MessageRow;
+use vehicle::now::Now;
 use vehicle::rows::{State, VehicleRow};
 
 // The row after the tick, where the lanes have seen all vehicles of lower numbers.
-fn turned(junction: Junction, clock: u32, lanes: &Lanes, row: &VehicleRow) -> VehicleRow
-    ensures { fits junction.lanes row.now.body ≡ true → TurnedAt junction clock (slice_index_or lanes.now.behind (lane_number_of row.now.body) None) row.now result }
+fn turned(now: Now, lanes: &Lanes, row: &VehicleRow) -> VehicleRow
+    ensures { fits now.junction.lanes row.now.body ≡ true → TurnedAt now.junction now.clock (slice_index_or lanes.now.behind (lane_number_of row.now.body) None) row.now result }
 {
     let place = lanes.place_ahead(row);
     VehicleRow {
         distance: distance_after(row, place),
-        state: state_after(junction, clock, row.body, row.state),
+        state: state_after(now, row),
         ..*row
     }
 }
 
 // Takes the next vehicle over the tick: answers whether it came to its end. Those behind it are to see it as it was.
-fn pass(junction: Junction, clock: u32, lanes: &mut Lanes, row: &mut VehicleRow) -> bool
-    ensures { Passed junction clock lanes.old.behind lanes.new.behind row.old row.new result }
+fn pass(now: Now, lanes: &mut Lanes, row: &mut VehicleRow) -> bool
+    ensures { Passed now.junction now.clock lanes.old.behind lanes.new.behind row.old row.new result }
 {
     // most vehicles of a long run are done, and a tick changes nothing of those
     if let State::Done { .. } = row.state {
         return false;
     }
-    let new = turned(junction, clock, lanes, row);
+    let new = turned(now, lanes, row);
     let ended = has_finished(row, &new);
     lanes.see(row);
     *row = new;
@@ -52,20 +52,19 @@ fn post(mail: &mut [MessageRow], count: usize, vehicle: u32) -> usize
 // Takes all vehicles over the tick that comes to the clock, by number, and puts a DONE behind the first `sent` messages
 // for each that came to its end, while mail has a free place: answers how many messages there are then.
 pub fn turn_all(
-    junction: Junction,
-    clock: u32,
+    now: Now,
     vehicles: &mut [VehicleRow],
     mail: &mut [MessageRow],
     sent: usize,
 ) -> usize
-    ensures answer { Fit junction vehicles.old mail.old sent → TurnedAll junction clock vehicles.old vehicles.new mail.old mail.new sent result }
+    ensures answer { Fit now.junction vehicles.old mail.old sent → TurnedAll now.junction now.clock vehicles.old vehicles.new mail.old mail.new sent result }
 {
     let mut lanes = Lanes::new();
     let mut count = sent;
-    let mut number: u32 = 0;
+    // with their index, one less than their number: a proof knows nothing of rows that an adapter of `iter_mut` lent
     for i in 0..vehicles.len() {
-        number = number.saturating_add(1);
-        if pass(junction, clock, &mut lanes, &mut vehicles[i]) {
+        if pass(now, &mut lanes, &mut vehicles[i]) {
+            let number = u32::try_from(i + 1).unwrap_or(u32::MAX);
             count = post(mail, count, number);
         }
     }

@@ -1,8 +1,9 @@
 -- The numbers of a good row, part by part. Assumes nothing.
-use Rattle.std.proofs.Common.{◌≡◌, ℕ, ◌≤◌, true, ◌&&◌, leb, ℤ, pos, neg_ℤ, ◌≤ℤ◌, Some, None, Option, subst, arith}
+use Rattle.std.proofs.Common.{◌≡◌, ℕ, ◌≤◌, true, ◌&&◌, leb, ℤ, pos, neg_ℤ, ◌≤ℤ◌, Some, subst, arith}
 use lib.Signed.{le_z}
 use Rattle.std.proofs.lemmas.Bool.{and_from, and_parts}
 use Rattle.std.proofs.lemmas.Int.{ints}
+use Rattle.std.proofs.lemmas.Option.{none-some, same_Some}
 use Rattle.std.proofs.lemmas.Bool.Decides.{nat_tests}
 use Rattle.grid.specs.declared.junction.Junction.{Junction}
 use Rattle.grid.specs.Bodies.{Fits, fits}
@@ -14,11 +15,8 @@ use Rattle.vehicle.specs.declared.rows.VehicleRow.{VehicleRow}
 use Rattle.vehicle.specs.Rows.{good_claim, good_lag, good_numbers, good_row, good_state}
 use Rattle.vehicle.specs.States.{awaited_of, held_of, in_state}
 
-none_some : {c : Claim} → ◌≡◌ {A = Option Claim} None (Some c) → ⊥
-none_some is = let z : ◌≡◌ {A = ℕ} 0 1 = cc in omega arith
-
 carried : (c d : Claim) → Some d ≡ Some c → good_claim d ≡ true → good_claim c ≡ true
-carried c d is e = let same : d ≡ c = cc in subst (λ x. good_claim x ≡ true) same e
+carried c d is e = subst (λ x. good_claim x ≡ true) (same_Some d c is) e
 
 pub record GoodRow (j : Junction) (row : VehicleRow) : Type 0 where
   pub fitting : fits j.lanes row.body ≡ true
@@ -85,21 +83,21 @@ good_from j row good =
 
 -- what a good state holds and awaits are claims in range
 pub held_good : (b : ℕ) (s : State) → good_state b s ≡ true → (c : Claim) → held_of s ≡ Some c → good_claim c ≡ true
-held_good b Idle e c is = absurd (none_some is)
-held_good b (Asking d) e c is = absurd (none_some is)
+held_good b Idle e c is = absurd (none-some c is)
+held_good b (Asking d) e c is = absurd (none-some c is)
 held_good b (Holding d) e c is = carried c d is e
 held_good b (Changing d a) e c is = carried c d is (and_parts (good_claim d) (good_claim a) e).0
 held_good b (Crossing d lag nudged) e c is =
     carried c d is (and_parts (good_claim d) (good_lag b lag) (and_parts (good_claim d && good_lag b lag) (leb nudged 1000000) e).0).0
-held_good b (Done tick) e c is = absurd (none_some is)
+held_good b (Done tick) e c is = absurd (none-some c is)
 
 pub awaited_good : (b : ℕ) (s : State) → good_state b s ≡ true → (c : Claim) → awaited_of s ≡ Some c → good_claim c ≡ true
-awaited_good b Idle e c is = absurd (none_some is)
+awaited_good b Idle e c is = absurd (none-some c is)
 awaited_good b (Asking d) e c is = carried c d is e
-awaited_good b (Holding d) e c is = absurd (none_some is)
+awaited_good b (Holding d) e c is = absurd (none-some c is)
 awaited_good b (Changing d a) e c is = carried c a is (and_parts (good_claim d) (good_claim a) e).1
-awaited_good b (Crossing d lag nudged) e c is = absurd (none_some is)
-awaited_good b (Done tick) e c is = absurd (none_some is)
+awaited_good b (Crossing d lag nudged) e c is = absurd (none-some c is)
+awaited_good b (Done tick) e c is = absurd (none-some c is)
 
 module _ (j : Junction) (row : VehicleRow) (good : good_row j row ≡ true) where
   in_state_lem : (s : State) → row.state ≡ s → good_state j.buffer s ≡ true

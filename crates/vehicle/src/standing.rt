@@ -19,12 +19,9 @@ fn crossing_tiles(path: &Path, clock: u32, entry: u32, lag: i32) -> TileSet
     ensures { OnStep path.now clock entry lag result }
 {
     let Some(step) = step_at(clock, entry, lag) else {
-        return TileSet { bits: 0 };
+        return TileSet::default();
     };
-    match path.step_tiles(step) {
-        Some(tiles) => tiles,
-        None => TileSet { bits: 0 },
-    }
+    path.step_tiles(step).unwrap_or_default()
 }
 
 impl Vehicle {
@@ -45,7 +42,7 @@ impl Vehicle {
                 let path = self.path();
                 crossing_tiles(&path, clock, held.entry, lag)
             }
-            _ => TileSet { bits: 0 },
+            _ => TileSet::default(),
         }
     }
 }

@@ -1,23 +1,19 @@
--- The last vehicle in a lane, looked for from the end. Assumes nothing.
-use Rattle.std.proofs.Common.{◌≡◌, ℕ, ◌+◌, ◌-◌, ◌<◌, ◌≤◌, cond, List, [], ◌∷◌, ◌++◌, length, get_or, take, drop, Some, None, sym, ap, ◌∙◌, arith}
-use Rattle.std.proofs.lemmas.List.{drop_more, take-append-drop}
+-- The last vehicle in a lane, found from the end. Assumes nothing.
+use Rattle.std.proofs.Common.{◌≡◌, ℕ, cond, List, [], ◌∷◌, reverse, Some, None, Option, refl, ap, ◌∙◌}
+use mathlib.Core.List.{reverse-cons}
+use Rattle.std.specs.List.{find}
+use Rattle.std.specs.Option.{option_or}
+use Rattle.std.proofs.lemmas.List.Folds.{find-append}
 use Rattle.vehicle.specs.declared.rows.VehicleRow.{VehicleRow}
 use Rattle.run.specs.Worlds.{is_of_lane, last_of_lane, or_else}
 
-module _ (lane : ℕ) where
-  behind : (xs ys : List VehicleRow) (x : VehicleRow) → last_of_lane lane ys ≡ Some x → last_of_lane lane (xs ++ ys) ≡ Some x
-  behind [] ys x e = e
-  behind (y ∷ xs) ys x e = ap (λ o. or_else o (cond (is_of_lane lane y) (Some y) None)) (behind xs ys x e)
+or_is : {X : Type 0} (o p : Option X) → option_or o p ≡ or_else o p
+or_is None p = refl
+or_is (Some x) p = refl
 
-  -- none of the rows from n on is in that lane: so it is the one before, or none from there on
-  pub one_back : (rows : List VehicleRow) (n : ℕ) (d : VehicleRow) → 0 < n → n ≤ length rows → last_of_lane lane (drop n rows) ≡ None
-      → last_of_lane lane (drop (n - 1) rows) ≡ cond (is_of_lane lane (get_or rows (n - 1) d)) (Some (get_or rows (n - 1) d)) None
-  one_back rows n d some le none =
-      let x = get_or rows (n - 1) d in
-      let back : n - 1 + 1 ≡ n = omega (arith, some) in
-      ap (last_of_lane lane) (drop_more rows (n - 1) d (omega (arith, some, le)))
-      ∙ ap (λ k. or_else (last_of_lane lane (drop k rows)) (cond (is_of_lane lane x) (Some x) None)) back
-      ∙ ap (λ o. or_else o (cond (is_of_lane lane x) (Some x) None)) none
-
-  pub found : (rows : List VehicleRow) (i : ℕ) (x : VehicleRow) → last_of_lane lane (drop i rows) ≡ Some x → last_of_lane lane rows ≡ Some x
-  found rows i x e = ap (last_of_lane lane) (sym (take-append-drop i rows)) ∙ behind (take i rows) (drop i rows) x e
+pub found_last : (lane : ℕ) (rows : List VehicleRow) → find (is_of_lane lane) (reverse rows) ≡ last_of_lane lane rows
+found_last lane [] = refl
+found_last lane (row ∷ rows) =
+    let one : Option VehicleRow = cond (is_of_lane lane row) (Some row) None in
+    ap (find (is_of_lane lane)) (reverse-cons row rows) ∙ find-append (is_of_lane lane) (reverse rows) (row ∷ [])
+    ∙ or_is (find (is_of_lane lane) (reverse rows)) one ∙ ap (λ o. or_else o one) (found_last lane rows)

@@ -4,8 +4,8 @@ ghost use Rattle.run.specs.Calls.{Asks, MayAsk};
 ghost use Rattle.run.specs.Worlds.{conduct, stage};
 
 use super::lanes::is_lead;
-use super::sending::may_send;
-use lent::ready::admit_vehicle;
+use super::sending::send;
+use lent::scene::Scene;
 use message::row::MessageRow;
 use policy::policy::Policy;
 use refusal::kinds::CallFault;
@@ -15,10 +15,7 @@ use vehicle::rows::{Claim, State, VehicleRow};
 fn may_ask(state: State) -> bool
     ensures { Decides result (MayAsk state) }
 {
-    match state {
-        State::Idle | State::Asking(_) => true,
-        _ => false,
-    }
+    matches!(state, State::Idle | State::Asking(_))
 }
 
 // The vehicle asks for the entry: the number of its request.
@@ -32,26 +29,32 @@ pub fn ask<P: Policy>(
 ) -> Result<u32, CallFault>
     ensures answer { Asks (conduct P.view P.asks P.releases P.advances) (stage run.old vehicles.old mail.old policy.now) (stage run.new vehicles.new mail.new policy.now) vehicle entry result }
 {
-    let row = admit_vehicle(run, policy, vehicles, mail, vehicle)?;
+    let scene = Scene {
+        run,
+        policy,
+        vehicles,
+        mail,
+    };
+    let asking = scene.vehicle(vehicle)?;
+    let row = asking.row;
     if !may_ask(row.state) {
         return Err(CallFault::State);
     }
-    if !is_lead(&vehicles[0..vehicle as usize - 1], row.body) {
+    if !is_lead(&vehicles[..vehicle as usize - 1], row.body) {
         return Err(CallFault::NotLead);
     }
-    may_send(run, &row, entry, mail.len())?;
     let number = row.used + 1;
-    vehicles[vehicle as usize - 1] = VehicleRow {
-        used: number,
-        state: State::Asking(Claim { number, entry }),
-        ..row
-    };
-    mail[run.mail] = MessageRow::Request {
+    let request = MessageRow::Request {
         vehicle,
         number,
         entry,
         distance: row.distance,
     };
-    run.mail += 1;
+    run.mail = send(run, &asking, entry, mail, request)?;
+    vehicles[vehicle as usize - 1] = VehicleRow {
+        used: number,
+        state: State::Asking(Claim { number, entry }),
+        ..row
+    };
     Ok(number)
 }

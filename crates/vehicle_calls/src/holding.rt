@@ -3,8 +3,9 @@ ghost use Rattle.std.specs.Prelude.{◌≡◌};
 ghost use Rattle.run.specs.Calls.{Cancels, Changes, keeping};
 ghost use Rattle.run.specs.Worlds.{conduct, stage};
 
-use super::sending::may_send;
-use lent::ready::admit_vehicle;
+use super::sending::send;
+use lent::mail::post;
+use lent::scene::Scene;
 use message::row::MessageRow;
 use policy::policy::Policy;
 use refusal::kinds::CallFault;
@@ -16,8 +17,7 @@ fn kept_claim(state: State) -> Option<Claim>
     ensures { result ≡ keeping state }
 {
     match state {
-        State::Holding(held) => Some(held),
-        State::Changing { held, .. } => Some(held),
+        State::Holding(held) | State::Changing { held, .. } => Some(held),
         _ => None,
     }
 }
@@ -33,12 +33,24 @@ pub fn change<P: Policy>(
 ) -> Result<u32, CallFault>
     ensures answer { Changes (conduct P.view P.asks P.releases P.advances) (stage run.old vehicles.old mail.old policy.now) (stage run.new vehicles.new mail.new policy.now) vehicle entry result }
 {
-    let row = admit_vehicle(run, policy, vehicles, mail, vehicle)?;
-    let Some(held) = kept_claim(row.state) else {
-        return Err(CallFault::State);
+    let scene = Scene {
+        run,
+        policy,
+        vehicles,
+        mail,
     };
-    may_send(run, &row, entry, mail.len())?;
+    let changing = scene.vehicle(vehicle)?;
+    let row = changing.row;
+    let held = kept_claim(row.state).ok_or(CallFault::State)?;
     let number = row.used + 1;
+    let change = MessageRow::Change {
+        vehicle,
+        number,
+        base: held.number,
+        entry,
+        distance: row.distance,
+    };
+    run.mail = send(run, &changing, entry, mail, change)?;
     vehicles[vehicle as usize - 1] = VehicleRow {
         used: number,
         state: State::Changing {
@@ -47,14 +59,6 @@ pub fn change<P: Policy>(
         },
         ..row
     };
-    mail[run.mail] = MessageRow::Change {
-        vehicle,
-        number,
-        base: held.number,
-        entry,
-        distance: row.distance,
-    };
-    run.mail += 1;
     Ok(number)
 }
 
@@ -68,21 +72,22 @@ pub fn cancel<P: Policy>(
 ) -> Result<(), CallFault>
     ensures answer { Cancels (conduct P.view P.asks P.releases P.advances) (stage run.old vehicles.old mail.old policy.now) (stage run.new vehicles.new mail.new policy.now) vehicle result }
 {
-    let row = admit_vehicle(run, policy, vehicles, mail, vehicle)?;
-    let Some(held) = kept_claim(row.state) else {
-        return Err(CallFault::State);
+    let scene = Scene {
+        run,
+        policy,
+        vehicles,
+        mail,
     };
-    if run.mail >= mail.len() {
-        return Err(CallFault::MailFull);
-    }
+    let row = scene.vehicle(vehicle)?.row;
+    let held = kept_claim(row.state).ok_or(CallFault::State)?;
+    let cancel = MessageRow::Cancel {
+        vehicle,
+        number: held.number,
+    };
+    run.mail = post(mail, run.mail, cancel)?;
     vehicles[vehicle as usize - 1] = VehicleRow {
         state: State::Idle,
         ..row
     };
-    mail[run.mail] = MessageRow::Cancel {
-        vehicle,
-        number: held.number,
-    };
-    run.mail += 1;
     Ok(())
 }

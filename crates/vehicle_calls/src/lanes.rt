@@ -17,20 +17,12 @@ fn is_in(lane: u64, row: &VehicleRow) -> bool
 pub(crate) fn last_in(lane: u64, rows: &[VehicleRow]) -> Option<VehicleRow>
     ensures { result ≡ last_of_lane lane rows.now }
 {
-    for i in (0..rows.len()).rev() {
-        if is_in(lane, &rows[i]) {
-            return Some(rows[i]);
-        }
-    }
-    None
+    rows.iter().rev().find(|row| is_in(lane, row)).copied()
 }
 
 // Whether a vehicle is the first in its lane, where these rows are those of lower numbers.
 pub(crate) fn is_lead(lower: &[VehicleRow], body: Body) -> bool
     ensures { Decides result (last_of_lane (lane_number_of body) lower.now ≡ None) }
 {
-    match last_in(body.lane_number(), lower) {
-        Some(_) => false,
-        None => true,
-    }
+    last_in(body.lane_number(), lower).is_none()
 }

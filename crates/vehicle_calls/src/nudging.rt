@@ -5,7 +5,7 @@ ghost use Rattle.run.specs.Calls.{Nudges, OneTick};
 ghost use Rattle.run.specs.Worlds.{conduct, stage};
 
 use grid::junction::Junction;
-use lent::ready::admit_vehicle;
+use lent::scene::Scene;
 use message::row::MessageRow;
 use policy::policy::Policy;
 use refusal::kinds::CallFault;
@@ -23,7 +23,7 @@ fn is_within(junction: Junction, lag: i64) -> bool
     ensures { result ≡ good_lag junction.buffer lag }
 {
     let slack = junction.buffer as i64;
-    (lag >= -slack) & (lag <= slack)
+    (-slack..=slack).contains(&lag)
 }
 
 // The lag later by so many ticks, if that is within the buffer.
@@ -48,16 +48,20 @@ pub fn nudge<P: Policy>(
 ) -> Result<(), CallFault>
     ensures answer { Nudges (conduct P.view P.asks P.releases P.advances) (stage run.now vehicles.old mail.now policy.now) (stage run.now vehicles.new mail.now policy.now) vehicle by result }
 {
-    let row = admit_vehicle(run, policy, vehicles, mail, vehicle)?;
+    let scene = Scene {
+        run,
+        policy,
+        vehicles,
+        mail,
+    };
+    let row = scene.vehicle(vehicle)?.row;
     let State::Crossing { held, lag, nudged } = row.state else {
         return Err(CallFault::State);
     };
     if !is_one_tick(by) || nudged == run.clock {
         return Err(CallFault::Nudge);
     }
-    let Some(lag) = moved_lag(run.junction, lag, by) else {
-        return Err(CallFault::Lag);
-    };
+    let lag = moved_lag(run.junction, lag, by).ok_or(CallFault::Lag)?;
     vehicles[vehicle as usize - 1] = VehicleRow {
         state: State::Crossing {
             held,

@@ -1,34 +1,29 @@
-// What a request for an entry must pass, whether it is the first or a change.
-ghost use Rattle.std.specs.Prelude.{◌≡◌, true};
-ghost use Rattle.grid.specs.Bodies.{fits};
+// What a request for an entry must pass, whether it is the first or a change, and how it is sent.
+ghost use Rattle.std.specs.Prelude.{◌≡◌, ◌+◌, length, slice_set};
 ghost use Rattle.run.specs.Calls.{sending};
-ghost use Rattle.run.specs.Tables.{Nothing, Ruled};
+ghost use Rattle.run.specs.Tables.{Ruled};
 
-use grid::path::Path;
+use lent::mail::post;
+use message::row::MessageRow;
 use refusal::kinds::CallFault;
 use reservation::entries::check_entry;
 use run::run::Run;
-use vehicle::rows::VehicleRow;
+use vehicle::vehicle::Vehicle;
 
-// Whether this row's vehicle may send for the entry, where mail memory has so many rows.
-pub(crate) fn may_send(
+// The vehicle sends this message for the entry, if it may. The answer is how much mail there is then.
+pub(crate) fn send(
     run: &Run,
-    row: &VehicleRow,
+    vehicle: &Vehicle,
     entry: u32,
-    room: usize,
-) -> Result<(), CallFault>
-    requires { fits run.now.junction.lanes row.now.body ≡ true }
-    ensures { Ruled (sending run.now row.now entry room) Nothing (Unit {0}) result }
+    mail: &mut [MessageRow],
+    message: MessageRow,
+) -> Result<usize, CallFault>
+    requires { vehicle.now.junction ≡ run.now.junction }
+    ensures { Ruled (sending run.now vehicle.now.row entry (length mail.old)) (λ k. (k ≡ run.now.mail + 1) × (mail.new ≡ slice_set mail.old run.now.mail message)) (mail.new ≡ mail.old) result }
 {
-    let Some(path) = Path::of(run.junction, row.body) else {
-        unreachable()
-    };
-    check_entry(&path, run.clock, row.distance, entry)?;
-    if row.used >= 1000 {
+    check_entry(&vehicle.path(), run.clock, vehicle.row.distance, entry)?;
+    if vehicle.row.used >= 1000 {
         return Err(CallFault::NumbersUsed);
     }
-    if run.mail >= room {
-        return Err(CallFault::MailFull);
-    }
-    Ok(())
+    post(mail, run.mail, message)
 }

@@ -3,7 +3,7 @@
 
 mod list;
 
-use anyhow::anyhow;
+use anyhow::Context;
 use book::book::LockBook;
 use grid::junction::Junction;
 use grid::kinds::{Approach, Body, Movement};
@@ -41,10 +41,7 @@ fn request(vehicle: u32, body: Body, distance: u32, entry: u32) -> Request {
 
 // Its footprint when it enters at the tick.
 fn entering(junction: Junction, body: Body, entry: u32) -> anyhow::Result<Footprint> {
-    match Footprint::of(junction, &request(1, body, 8, entry)) {
-        Some(footprint) => Ok(footprint),
-        None => Err(anyhow!("the request is out of range")),
-    }
+    Footprint::of(junction, &request(1, body, 8, entry)).context("the request is out of range")
 }
 
 fn right_turns(rt: &impl Print, junction: Junction) -> anyhow::Result<()> {
@@ -64,10 +61,7 @@ fn a_or_no(there: bool) -> &'static str {
 
 // The answer on two requests of one junction.
 fn told(answer: Option<bool>) -> anyhow::Result<bool> {
-    match answer {
-        Some(answer) => Ok(answer),
-        None => Err(anyhow!("the requests are not of one junction")),
-    }
+    answer.context("the requests are not of one junction")
 }
 
 fn cells(
@@ -165,8 +159,7 @@ fn stop_line(
     junction: Junction,
     distance: u32,
 ) -> anyhow::Result<()> {
-    let below = LockBook::new(heap, junction)?;
-    let mut layer = StopLine { below };
+    let mut layer = StopLine::over(LockBook::new(heap, junction)?);
     let body = car(Approach::South, Movement::Through);
     let asked = format!(in heap; "Stop line is asked from {distance} units away")?;
     say(
@@ -177,13 +170,12 @@ fn stop_line(
 }
 
 fn entry_row(rt: &impl Print, junction: Junction, entry: u32) -> anyhow::Result<()> {
-    let Some(path) = Path::of(junction, car(Approach::South, Movement::Through)) else {
-        return Err(anyhow!("the body does not fit"));
-    };
+    let body = car(Approach::South, Movement::Through);
+    let path = Path::of(junction, body).context("the body does not fit")?;
     match check_entry(&path, 0, 8, entry) {
         Ok(()) => println!(rt; "at clock 0, 8 units away, entry {entry} may be asked for")?,
         Err(fault) => {
-            let number = Refusal::Call(fault).number();
+            let number = Refusal::from(fault).number();
             println!(rt; "at clock 0, 8 units away, entry {entry} is refused with {number}")?
         }
     }
@@ -191,9 +183,7 @@ fn entry_row(rt: &impl Print, junction: Junction, entry: u32) -> anyhow::Result<
 }
 
 fn run(rt: &impl Print, heap: Global) -> anyhow::Result<()> {
-    let Ok(junction) = Junction::new(1, 1) else {
-        return Err(anyhow!("no such junction"));
-    };
+    let junction = Junction::new(1, 1).ok().context("no such junction")?;
     right_turns(rt, junction)?;
     cells(rt, junction, "E", Approach::East, 12)?;
     cells(rt, junction, "E", Approach::East, 13)?;

@@ -19,9 +19,9 @@ unreachable-requires-in_default-read c =
     let w = c.in-Ok.ensures in
     c.in_default-read.ensures.only (Ok c.args.message.now) (c.front.ensures ∙ the_line (line_of c.args.message.now.row) _ _ _ w.answer.0 w.after)
 
-pub returns : goal.returns
-returns c =
+pub returns-clause-same : goal.returns-clause-same
+returns-clause-same c =
     let w = c.in-Ok.ensures in
     let text = c.front.ensures ∙ the_line (line_of c.args.message.now.row) _ _ _ w.answer.0 w.after in
     let only = subst (λ bs. Only bs (Ok c.in-Ok-read.message)) text c.in-Ok-read.ensures.only in
-    record { same = sym (only (Ok c.args.message.now) refl); only = only; after = w.after }
+    sym (only (Ok c.args.message.now) refl)

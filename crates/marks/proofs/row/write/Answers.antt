@@ -6,5 +6,5 @@ use Rattle.marks.proofs.row.write.Goals as goal
 
 pub returns-clause-marks : goal.returns-clause-marks
 returns-clause-marks c tile below =
-    let off = ap (λ x. bit x tile) c.loop-rest-test.false ∙ bit_zero tile in
-    sym (cond-false (bit c.loop-rest.rest tile) c.args.vehicle (get_or c.loop-rest.marks tile 0) off) ∙ c.loop-rest.invariant.1 tile
+    let off = ap (λ x. bit x tile) c.in-None.ensures.steps ∙ bit_zero tile in
+    sym (cond-false (bit c.loop-tile.tile-iterator.rest tile) c.args.vehicle (get_or c.loop-tile.marks tile 0) off) ∙ c.loop-tile.invariant.1 tile

@@ -3,10 +3,7 @@ use Rattle.grid.specs.Sets.{bit}
 use Rattle.marks.proofs.row.write.Given as goal
 
 -- once the rest is written, all of the word is
-abbrev pub invariant-loop-rest : goal.invariant-loop-rest
-invariant-loop-rest l =
+abbrev pub invariant-loop-tile : goal.invariant-loop-tile
+invariant-loop-tile l =
     (length l.marks ≡ 64) ×
-    ((tile : ℕ) → cond (bit l.rest tile) l.vehicle (get_or l.marks tile 0) ≡ cond (bit l.word tile) l.vehicle (get_or l.initial.marks tile 0))
-
-abbrev pub decreases-loop-rest : goal.decreases-loop-rest
-decreases-loop-rest l = l.rest
+    ((tile : ℕ) → cond (bit l.tile-iterator.rest tile) l.vehicle (get_or l.marks tile 0) ≡ cond (bit l.word tile) l.vehicle (get_or l.initial.marks tile 0))

@@ -26,4 +26,4 @@ done_stays j clock places r tick is =
     }
 
 pub returns-in-Done : goal.returns-in-Done
-returns-in-Done c = done_stays c.args.junction c.args.clock c.args.lanes.now.behind c.args.row.now _ c.in-Done.is
+returns-in-Done c = done_stays c.args.now.junction c.args.now.clock c.args.lanes.now.behind c.args.row.now _ c.in-Done.is

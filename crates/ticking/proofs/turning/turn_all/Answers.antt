@@ -5,21 +5,22 @@ use Rattle.ticking.proofs.turning.turn_all.Goals as goal
 use Rattle.ticking.proofs.turning.turn_all.Goals.{then-pass, else-pass}
 
 pub loop-i-init : goal.loop-i-init
-loop-i-init c = λ fit. course_none c.args.junction c.args.clock c.args.vehicles.now c.args.mail.now c.args.sent fit c.new-lanes.result.behind c.new-lanes.ensures
+loop-i-init c = λ fit. course_none c.args.now.junction c.args.now.clock c.args.vehicles.now c.args.mail.now c.args.sent fit c.new-lanes.result.behind c.new-lanes.ensures
 
 pub loop-i-preserved : goal.loop-i-preserved
 loop-i-preserved c = λ fit.
     let so_far = c.loop-i.invariant fit in
     let within : c.loop-i.i < length c.loop-i.vehicles = omega arith in
     let here = get_or_default c.loop-i.vehicles c.loop-i.i _ _ within in
-    let next : c.saturating_add-number.result ≡ c.loop-i.i + 1 = omega (arith, so_far.number_is) in
-    course_more c.args.junction c.args.clock c.args.vehicles.now c.args.mail.now c.args.sent fit c.loop-i.vehicles c.loop-i.mail c.loop-i.lanes.behind c.loop-i.count c.loop-i.number c.loop-i.i so_far
-    within c.loop-i.auto.vehicles c.loop-i.lanes.full _ c.pass.new.row here c.pass.new.lanes.behind c.pass.result c.pass.ensures c.saturating_add-number.result next
+    course_more c.args.now.junction c.args.now.clock c.args.vehicles.now c.args.mail.now c.args.sent fit c.loop-i.vehicles c.loop-i.mail c.loop-i.lanes.behind c.loop-i.count c.loop-i.i so_far
+    within c.loop-i.auto.vehicles c.loop-i.lanes.full _ c.pass.new.row here c.pass.new.lanes.behind c.pass.result c.pass.ensures
     c.loop-i.auto.mail c.if-pass.mail c.if-pass.count
     (elim c.if-pass.branch [
-      | then-pass w ↦ simp (w.if-pass.true, w.mail-is, w.count-is) w.post-count.ensures
+      | then-pass w ↦ (
+          let number : w.unwrap_or-number.result ≡ c.loop-i.i + 1 = grind (arith, w.try_from.ensures, fit.few) in
+          simp (w.if-pass.true, w.mail-is, w.count-is) (rw number at w.post-count.ensures))
       | else-pass w ↦ simp w.if-pass.false (w.mail-is, w.count-is)
     ])
 
 pub returns : goal.returns
-returns c = record { answer = λ fit. course_all c.args.junction c.args.clock c.args.vehicles.now c.args.mail.now c.args.sent fit c.loop-i.vehicles c.loop-i.mail c.loop-i.lanes.behind c.loop-i.count c.loop-i.number c.loop-i.i (c.loop-i.invariant fit) c.loop-i.auto.vehicles (omega arith) }
+returns c = record { answer = λ fit. course_all c.args.now.junction c.args.now.clock c.args.vehicles.now c.args.mail.now c.args.sent fit c.loop-i.vehicles c.loop-i.mail c.loop-i.lanes.behind c.loop-i.count c.loop-i.i (c.loop-i.invariant fit) c.loop-i.auto.vehicles (omega arith) }

@@ -34,6 +34,10 @@ returns g c =
     let b = c.args.self.now in
     let r = c.args.request.now in
     let room = leb-false _ _ (sym c.if-is_full.ensures.full) in
-    let (past, one, same) = screened_footprint (view_of b) r c.in_ok-footprint.footprint c.in_ok-footprint.ensures.answer in
-    (grant_verdict clash (view_of b) r (all_ranged b) past (subst (λ q. RivalOf clash b q None) same c.in_default.ensures)
-        (omega (arith, length-requests (entries b.ledger))), one, same, room)
+    let (past, one, same) = screened_footprint (view_of b) r c.in_ok-footprint.footprint c.in_ok-footprint.ensures.answer in (
+      grant_verdict clash (view_of b) r (all_ranged b) past (subst (λ q. RivalOf clash b q None) same c.in_default.ensures)
+          (omega (arith, length-requests (entries b.ledger))),
+      one,
+      same,
+      room,
+    )

@@ -1,9 +1,10 @@
-use Rattle.std.proofs.Common.{not, ◌&&◌, eqb, get_or, ap, ◌∙◌}
+use Rattle.std.proofs.Common.{not, ◌&&◌, eqb, get_or, ap, ◌∙◌, rules}
 use lib.Bits.{bit_and}
 use Rattle.grid.specs.Sets.{bit}
 use Rattle.grid.proofs.Digits.{bit-and}
 use Rattle.marks.specs.Rows.{is_other}
 use Rattle.marks.proofs.Finds.{and_again, some_below}
+use Rattle.marks.proofs.Takes.{any_one}
 use Rattle.marks.proofs.row.Row.other_than.Goals as goal
 
 -- a tile of both words is one of the word's that has a mark
@@ -12,7 +13,7 @@ returns c =
     let row = c.args.self.now in
     let word = c.args.tiles.bits in
     let vehicle = c.args.vehicle in
-    c.differs.ensures
+    any_one _ _ (λ tile. not (eqb (get_or row.marks tile 0) vehicle)) (λ x r f called. search rules) _ _ _ c.any.ensures.ran
     ∙ some_below 64
     (λ tile. bit (bit_and word row.taken) tile && not (eqb (get_or row.marks tile 0) vehicle))
     (λ tile. bit word tile && is_other vehicle (get_or row.marks tile 0))

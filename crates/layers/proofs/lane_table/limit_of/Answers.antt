@@ -1,8 +1,0 @@
-use Rattle.std.proofs.Common.{◌≤◌, length, sym, arith}
-use Rattle.std.proofs.lemmas.List.{get_or_past}
-use Rattle.layers.proofs.lane_table.limit_of.Goals as goal
-
-pub returns-else-lane-lt8 : goal.returns-else-lane-lt8
-returns-else-lane-lt8 c =
-    let past : length c.args.limits ≤ c.args.lane = omega arith in
-    sym (get_or_past c.args.limits c.args.lane 0 past)
