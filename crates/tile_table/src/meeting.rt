@@ -23,9 +23,8 @@ fn meets_at(marks: &Marks, footprint: &Footprint, vehicle: u16, tick: u32) -> bo
 fn meets(marks: &Marks, footprint: &Footprint, vehicle: u16) -> bool
     ensures { Decides result (Foreign marks.now footprint.now.junction footprint.now.request vehicle) }
 {
-    (footprint.first_tick()..footprint.last_tick() + 1).any(|tick| meets_at(
-        marks, footprint, vehicle, tick,
-    ))
+    let mut span = footprint.first_tick()..footprint.last_tick() + 1;
+    span.any(|tick| meets_at(marks, footprint, vehicle, tick))
 }
 
 // Whether some cell of the request has another vehicle's mark.

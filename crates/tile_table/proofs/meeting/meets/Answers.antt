@@ -5,8 +5,8 @@ use Rattle.tile_table.proofs.Searches.{decides_range}
 use Rattle.tile_table.proofs.Spans.{last_small, within_span}
 use Rattle.tile_table.proofs.meeting.meets.Goals as goal
 
-pub overflow_add-last_tick : goal.overflow_add-last_tick
-overflow_add-last_tick c =
+pub overflow_add-span : goal.overflow_add-span
+overflow_add-span c =
     let f = c.args.footprint.now in
     omega (arith, last_small f.junction f.request f.ranged)
 

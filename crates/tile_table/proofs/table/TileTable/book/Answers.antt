@@ -1,12 +1,11 @@
 use Rattle.std.proofs.Common.{◌≡◌, true, [], ◌∷◌, ◌++◌, sym, ap, ◌∙◌, subst}
 use Rattle.reservation.specs.Cells.{has}
 use Rattle.reservation.specs.Requests.{in_range, last_tick_of}
-use Rattle.policy.specs.Views.{with_ledger}
 use Rattle.ledger.specs.Entries.{entries}
 use Rattle.ledger.specs.Standings.{requests}
 use Rattle.ledger.proofs.Requests.{requests-append}
 use Rattle.tile_table.specs.Painting.{Painted}
-use Rattle.tile_table.specs.Tables.{standing_of, view_of}
+use Rattle.tile_table.specs.Tables.{standing_of}
 use Rattle.ledger.proofs.Each.{each_more}
 use Rattle.tile_table.proofs.Sound.{Sound, sound_asked, sound_of}
 use Rattle.tile_table.proofs.table.TileTable.book.Goals as goal
@@ -35,6 +34,3 @@ invariant_of-self c =
       apart = sound.apart;
       agree = sound.agree;
     }
-
-pub returns : goal.returns
-returns c = ap (with_ledger (view_of c.args.self.now)) (more (goal.at.returns c).After-enter)

@@ -2,13 +2,8 @@ use Rattle.std.proofs.Common.{◌+◌, ◌<◌, ◌≤◌, cond, ap, ◌∙◌, 
 use Rattle.reservation.specs.Cells.{has}
 use Rattle.marks.specs.Marked.{mark}
 use Rattle.tile_table.proofs.Rings.{paint_first, paint_last, paint_more}
-use Rattle.tile_table.proofs.Spans.{after_last, before_first, last_small}
+use Rattle.tile_table.proofs.Spans.{after_last, before_first}
 use Rattle.tile_table.proofs.window.Window.paint.Goals as goal
-
-pub overflow_add-tick-end : goal.overflow_add-tick-end
-overflow_add-tick-end c =
-    let f = c.args.footprint.now in
-    omega (arith, last_small f.junction f.request f.ranged)
 
 pub loop-tick-init : goal.loop-tick-init
 loop-tick-init c =
