@@ -2,7 +2,7 @@
 ghost use Rattle.std.specs.Prelude.{◌≡◌, ◌+◌, ◌-◌, ◌*◌, ◌<◌, ◌≤◌, min};
 ghost use Rattle.grid.specs.Paths.{point_touches};
 ghost use Rattle.grid.specs.Sets.{Exactly};
-ghost use Rattle.grid.specs.Steps.{points_touch, step_touches, steps_touch};
+ghost use Rattle.grid.specs.Steps.{step_touches, steps_touch};
 ghost use Rattle.grid.specs.Tracks.{PointTiles, StepTiles};
 
 use super::path::Path;
@@ -27,21 +27,12 @@ fn front_point(step: u32, speed: u32) -> u32
 }
 
 impl Path {
-    // The tiles that the vehicle touches from the points `first` to `last`.
-    fn points_tiles(&self, first: u32, last: u32) -> TileSet
-        requires order { first ≤ last }
-        requires within { last < 48 }
-        ensures { Exactly result (points_touch self.now.junction.lanes self.now.body first last) }
-    {
-        self.course().points_tiles(first, last)
-    }
-
     // The tiles that the vehicle touches from a point of the path.
     fn tiles_from(&self, i: u32) -> TileSet
         requires { i ≤ self.now.last_point }
         ensures { Exactly result (point_touches self.now.junction.lanes self.now.body i) }
     {
-        self.points_tiles(i, i)
+        self.course().points_tiles(i, i)
     }
 
     // The tiles that it touches in the steps `first` to `last`, of which there are those up to `top`.
@@ -55,7 +46,7 @@ impl Path {
         let speed = self.body.speed;
         let from = rear_point(first, speed, self.body.length);
         let to = front_point(top, speed);
-        self.points_tiles(from, to)
+        self.course().points_tiles(from, to)
     }
 
     // The tiles that it touches in a step.

@@ -1,5 +1,5 @@
 -- What the answers on two footprints tell besides. Assumes nothing.
-use Rattle.std.proofs.Common.{◌≡◌, Bool, true, false, ◌&&◌, sym, ap, ◌∙◌, ap₂}
+use Rattle.std.proofs.Common.{◌≡◌, ℕ, Bool, true, false, leb, ◌&&◌, sym, ap, ◌∙◌, ap₂}
 use Rattle.std.proofs.lemmas.Bool.{and_left}
 use Rattle.grid.specs.declared.junction.Junction.{Junction}
 use Rattle.grid.specs.Sets.{has_tile}
@@ -8,7 +8,8 @@ use Rattle.grid.specs.Steps.{path_touches}
 use Rattle.grid.proofs.Somes.{some_tests}
 use Rattle.reservation.specs.declared.passage.Passage.{Passage}
 use Rattle.reservation.specs.declared.request.Request.{Request}
-use Rattle.reservation.specs.Cells.{locks, paths_meet, share}
+use Rattle.reservation.specs.Cells.{both, both_at, locks, paths_meet, share, spans_overlap}
+use Rattle.reservation.specs.Requests.{first_tick_of, last_tick_of}
 use Rattle.reservation.specs.Meetings.{Locks, Shares}
 use Rattle.reservation.proofs.Laws.{locks_symmetric, share_found, share_from, share_locks, share_symmetric}
 
@@ -32,9 +33,21 @@ pub passages_meet : (p q : Passage) → p.junction ≡ q.junction
     → some 64 (λ tile. has_tile p.tiles tile && has_tile q.tiles tile) ≡ paths_meet p.junction p.request q.request
 passages_meet p q one = some_tests 64 _ _ (λ tile. ap₂ ◌&&◌ (p.crosses tile) (q.crosses tile ∙ ap (λ j. path_touches j.lanes q.request.body tile) (sym one)))
 
+-- and the spans a tick exactly where the spans of the requests do
+pub spans_told : (p q : Passage) → p.junction ≡ q.junction
+    → (leb p.first q.last && leb q.first p.last) ≡ spans_overlap p.junction p.request q.request
+spans_told p q one =
+    let first = q.begins ∙ ap (λ j. first_tick_of j q.request) (sym one) in
+    let last = q.ends ∙ ap (λ j. last_tick_of j q.request) (sym one) in
+    ap₂ ◌&&◌ (ap₂ leb p.begins last) (ap₂ leb first p.ends)
+
 -- the answer of a second test, behind a first that passed, and of a first that failed
 pub passed : (x y r : Bool) → true ≡ x → r ≡ y → r ≡ (x && y)
 passed x y r e is = is ∙ ap (λ t. t && y) e
 
 pub failed : (x y r : Bool) → false ≡ x → r ≡ x → r ≡ (x && y)
 failed x y r e is = is ∙ sym e ∙ sym (and_left x y (sym e))
+
+-- what two requests have at a tick, each at its junction, where that is one
+pub at_one : (j k : Junction) (p q : Request) (t : ℕ) → k ≡ j → some 64 (both_at j p k q t) ≡ some 64 (both j p q t)
+at_one j k p q t one = ap (λ i. some 64 (both_at j p i q t)) one

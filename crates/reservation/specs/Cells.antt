@@ -24,6 +24,10 @@ pub record Holds (j : Junction) (r : Request) (s tile t : ℕ) : Type 0 where
   pub late : t ≤ r.entry + s + j.buffer
   pub early : r.entry + s ≤ t + j.buffer
 
+-- both have the cell, each at its junction
+abbrev pub both_at : Junction → Request → Junction → Request → ℕ → ℕ → Bool
+both_at j p k q t tile = has j p tile t && has k q tile t
+
 -- both have the cell
 abbrev pub both : Junction → Request → Request → ℕ → ℕ → Bool
 both j p q t tile = has j p tile t && has j q tile t

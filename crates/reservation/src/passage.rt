@@ -1,8 +1,8 @@
 // The tiles and the ticks of a request, without which tile at which tick: all that a lock knows.
-ghost use Rattle.std.specs.Prelude.{◌≡◌, true};
+ghost use Rattle.std.specs.Prelude.{◌≡◌, ◌&&◌, true, nat_le};
 ghost use Rattle.grid.specs.Sets.{Exactly};
 ghost use Rattle.grid.specs.Steps.{path_touches};
-ghost use Rattle.reservation.specs.Cells.{is_same_junction, spans_overlap};
+ghost use Rattle.reservation.specs.Cells.{is_same_junction};
 ghost use Rattle.reservation.specs.Meetings.{Locks};
 ghost use Rattle.reservation.specs.Requests.{first_tick_of, last_tick_of};
 
@@ -25,8 +25,7 @@ pub(crate) struct Passage {
 impl Passage {
     // Whether the two have a tick in common.
     fn overlaps(&self, other: &Passage) -> bool
-        requires { is_same_junction self.now.junction other.now.junction ≡ true }
-        ensures { result ≡ spans_overlap self.now.junction self.now.request other.now.request }
+        ensures { result ≡ (nat_le self.now.first other.now.last && nat_le other.now.first self.now.last) }
     {
         self.first <= other.last && other.first <= self.last
     }

@@ -1,16 +1,15 @@
 // How two requests meet.
 ghost use Rattle.std.specs.Prelude.{◌≡◌, true};
 ghost use Rattle.grid.specs.Some.{some};
-ghost use Rattle.reservation.specs.Cells.{both, is_same_junction};
+ghost use Rattle.reservation.specs.Cells.{both_at, is_same_junction};
 ghost use Rattle.reservation.specs.Meetings.{Locks, OfOne, Shares};
 
 use super::footprint::Footprint;
 
 impl Footprint {
-    // Whether the two requests share a cell at the tick.
+    // Whether the two requests have a cell of one tile at the tick, each at its junction.
     fn share_at(&self, other: &Footprint, tick: u32) -> bool
-        requires { is_same_junction self.now.junction other.now.junction ≡ true }
-        ensures { result ≡ some 64 (both self.now.junction self.now.request other.now.request tick) }
+        ensures { result ≡ some 64 (both_at self.now.junction self.now.request other.now.junction other.now.request tick) }
     {
         self.tiles_at(tick).meets(other.tiles_at(tick))
     }

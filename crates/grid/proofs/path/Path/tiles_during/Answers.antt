@@ -39,5 +39,6 @@ returns c tile =
     let top : c.args.top ≡ min c.args.last (duration_of n p.body - 1) = c.requires ∙ ap (λ d. min c.args.last (d - 1)) lasts in
     let to = c.front_point-to.ensures ∙ ap (λ t. min (t * v + v - 1) 47) top in
     c.points_tiles.ensures tile
+    ∙ ap₂ (λ j b. points_touch j.lanes b c.rear_point-from.result c.front_point-to.result tile) c.course.ensures.junction c.course.ensures.body
     ∙ ap₂ (λ x y. points_touch n p.body x y tile) c.rear_point-from.ensures to
     ∙ sym (steps_points n p.body k.lanes k.fit c.args.first c.args.last tile (omega arith))
