@@ -6,6 +6,7 @@ ghost use Rattle.ticking.specs.Turning.{Fit, Passed, Posted, TurnedAll, TurnedAt
 use super::distances::distance_after;
 use super::lanes::Lanes;
 use super::states::{has_finished, state_after};
+use lent::mail::post;
 use message::row::MessageRow;
 use vehicle::now::Now;
 use vehicle::rows::{State, VehicleRow};
@@ -38,15 +39,10 @@ fn pass(now: Now, lanes: &mut Lanes, row: &mut VehicleRow) -> bool
 }
 
 // Puts a DONE behind the first `count` messages, if mail has a free place: answers how many messages there are then.
-fn post(mail: &mut [MessageRow], count: usize, vehicle: u32) -> usize
+fn post_done(mail: &mut [MessageRow], count: usize, vehicle: u32) -> usize
     ensures { Posted mail.old count (MessageRow.Done vehicle) mail.new result }
 {
-    if count < mail.len() {
-        mail[count] = MessageRow::Done { vehicle };
-        count + 1
-    } else {
-        count
-    }
+    post(mail, count, MessageRow::Done { vehicle }).unwrap_or(count)
 }
 
 // Takes all vehicles over the tick that comes to the clock, by number, and puts a DONE behind the first `sent` messages
@@ -65,7 +61,7 @@ pub fn turn_all(
     for i in 0..vehicles.len() {
         if pass(now, &mut lanes, &mut vehicles[i]) {
             let number = u32::try_from(i + 1).unwrap_or(u32::MAX);
-            count = post(mail, count, number);
+            count = post_done(mail, count, number);
         }
     }
     count

@@ -18,7 +18,7 @@ loop-i-preserved c = λ fit.
     (elim c.if-pass.branch [
       | then-pass w ↦ (
           let number : w.unwrap_or-number.result ≡ c.loop-i.i + 1 = grind (arith, w.try_from.ensures, fit.few) in
-          simp (w.if-pass.true, w.mail-is, w.count-is) (rw number at w.post-count.ensures))
+          simp (w.if-pass.true, w.mail-is, w.count-is) (rw number at w.post_done-count.ensures))
       | else-pass w ↦ simp w.if-pass.false (w.mail-is, w.count-is)
     ])
 
