@@ -9,7 +9,8 @@ use message::kinds::Kind;
 use message::row::MessageRow;
 use refusal::kinds::{Denial, Name, Reason};
 
-// The reason's number and the name of the clashing request.
+// The reason's number and the name of the clashing request, as a line has them. No `From`: three numbers have no name of
+// their own that would tell what they are.
 pub(crate) fn denial_numbers(denial: Denial) -> [u32; 3]
     ensures { result ≡ numbers_of_denial denial }
 {

@@ -54,11 +54,11 @@ fn read_message(line: &[u8], kind: Kind) -> Result<Message, FieldFault>
     ensures { MessageIn line.now result }
 {
     let numbers = read_numbers(line, kind)?;
-    match row_of(kind, &numbers) {
-        Some(row) => Ok(Message { row }),
-        // each number is good by itself, so it is the name of the clashing request
-        None => Err(fault_in(line, 4)),
-    }
+    let Some(row) = row_of(kind, &numbers) else {
+        // each number is good by itself, so what is wrong is the name of the clashing request
+        return Err(fault_in(line, 4));
+    };
+    Ok(Message { row })
 }
 
 // The message whose line this is, or what is wrong with it.

@@ -39,7 +39,7 @@ pub fn read_then_write(line: &[u8], memory: &mut [u8; 64]) -> Result<usize, Line
     let message = read(line)?;
     match write(&message, memory) {
         Ok(count) => Ok(count),
-        // no line of a message is longer than the memory
+        // no line of a message is longer than the memory, so that there is no error for a `?` to hand on
         Err(_) => unreachable(),
     }
 }

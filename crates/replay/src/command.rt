@@ -48,7 +48,8 @@ pub(crate) enum Command<'a> {
     SpoilMail(u32),
 }
 
-// A pile of policies by its name.
+// A pile of policies by its name. No `TryFrom`: another word is a fault of its line, as any other that does not fit, and
+// nobody would read an error that tells more.
 fn kind_of(word: &[u8]) -> Option<Kind> {
     match word {
         b"tiles" => Some(Kind::Tiles),
@@ -177,6 +178,7 @@ fn other<'a>(keyword: &[u8], words: &mut Words<'a>) -> Option<Command<'a>> {
 // What the keyword and the words after it ask for. A keyword of one kind of line is none of another, so the kinds may
 // be tried in any order.
 fn any_command<'a>(keyword: &[u8], words: &mut Words<'a>) -> Option<Command<'a>> {
+    // not by `map` and `or_else`: what these answer would borrow the words for as long as the command lives
     if let Some(call) = mail_call(keyword, words).or_else(|| vehicle_call(keyword, words)) {
         return Some(Command::Run(call));
     }

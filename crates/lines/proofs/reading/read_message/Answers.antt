@@ -7,14 +7,14 @@ returns-in_err-numbers c =
     let p = err_from_is_err_and c.from_residual.result c.from_residual.ensures.1 in
     rw (p.1, p.2) (bad_field _ _ c.requires c.in_err-numbers.field-0.0 c.in_err-numbers.ensures)
 
-pub returns-in-Some : goal.returns-in-Some
-returns-in-Some c =
+pub returns : goal.returns
+returns c =
     let h = c.in_ok-numbers.ensures in
     let w = rw c.deref.ensures.0 at c.in-Some.ensures in
     is_line _ _ c.requires _ h.0 h.1 c.in-Some.row w.0 w.1
 
-pub returns-in-None : goal.returns-in-None
-returns-in-None c =
+pub returns-in_default : goal.returns-in_default
+returns-in_default c =
     let h = c.in_ok-numbers.ensures in
-    let w = rw c.deref.ensures.0 at c.in-None.ensures in
+    let w = rw c.deref.ensures.0 at c.in_default.ensures in
     rw c.fault_in.ensures (wrong_pair _ _ c.requires _ h.0 h.1 w.0 w.1)
