@@ -17,8 +17,8 @@ fn lane_suits(lanes: u32, lane: u32, movement: Movement) -> bool
 }
 
 impl Body {
-    #[tactic(auto, using(std::proofs::lemmas::Bool::Decides::nat_tests), unfolding(crate::specs::Bodies::fits))]
     // Whether the body fits the junction: its numbers are in their ranges, and its lane suits its movement.
+    #[tactic(auto, using(std::proofs::lemmas::Bool::Decides::nat_tests), unfolding(crate::specs::Bodies::fits))]
     pub fn fits(&self, junction: Junction) -> bool
         ensures answer { result ≡ fits junction.lanes self.now }
     {

@@ -1,5 +1,5 @@
 -- The laws by which the layers above know the cells. Assumes nothing.
-use Rattle.std.proofs.Common.{◌≡◌, ℕ, suc, ◌+◌, ◌-◌, ◌*◌, ◌<◌, ◌≤◌, min, max, Bool, true, false, ◌&&◌, eqb, leb, ap₂, ⊎_elim, arith}
+use Rattle.std.proofs.Common.{◌≡◌, ℕ, suc, ◌+◌, ◌-◌, ◌*◌, ◌<◌, ◌≤◌, min, max, Bool, true, false, ◌&&◌, eqb, leb, Decides, ap₂, ⊎_elim, arith}
 use mathlib.Core.Bool.{and_comm}
 use Rattle.std.proofs.lemmas.Bool.{and_from, and_parts, both_ways, cases_Bool, eqb-true, le-leb, leb-true}
 use Rattle.grid.specs.declared.junction.Junction.{Junction}
@@ -127,6 +127,24 @@ module _ (j : Junction) (p q : Request) where
       let one = has_within j p tile t e.0 in
       let other = has_within j q tile t e.1 in
       omega arith)
+
+  -- where they share a cell, both are in their spans
+  pub shared_within : (t : ℕ) → some 64 (both j p q t) ≡ true
+      → (max p.entry q.entry ≤ t + j.buffer) × (t ≤ min (last_tick_of j p) (last_tick_of j q))
+  shared_within t e =
+      let w = some_found 64 (both j p q t) e in
+      let parts = and_parts (has j p w.0 t) (has j q w.0 t) w.2 in
+      let one = has_within j p w.0 t parts.0 in
+      let other = has_within j q w.0 t parts.1 in
+      (omega arith, omega arith)
+
+  -- whether they share a cell, where that is decided for the ticks
+  pub share_decided : (found : Bool) → Decides found ((t : ℕ) × (some 64 (both j p q t) ≡ true)) → found ≡ share j p q
+  share_decided found d = same_tests found (share j p q)
+      (λ e. let w = d.0 e in share_at w.0 w.1)
+      (λ e.
+      let w = share_found e in
+      d.1 (w.1, some_at 64 (both j p q w.1) w.0 (has_tile_lem j p w.0 w.1 w.2) (and_from _ _ w.2 w.3)))
 
   -- they share none where they share none at a tick up to the end of one span
   pub share_none : (m : ℕ) → ((t : ℕ) → t < m → some 64 (both j p q t) ≡ false) → min (last_tick_of j p) (last_tick_of j q) < m → share j p q ≡ false

@@ -1,3 +1,4 @@
 pub mod Ranges
 pub mod Laws
 pub mod Meet
+pub mod Searches

@@ -22,12 +22,8 @@ impl Footprint {
         let later = self.request.entry.max(other.request.entry);
         let first = later.saturating_sub(self.junction.buffer);
         let last = self.last_tick().min(other.last_tick());
-        for tick in first..last + 1 {
-            if self.share_at(other, tick) {
-                return true;
-            }
-        }
-        false
+        let mut common = first..last + 1;
+        common.any(|tick| self.share_at(other, tick))
     }
 
     // Whether the two requests share a cell; nothing where they are not of one junction.

@@ -1,7 +1,7 @@
 use Rattle.std.proofs.Common.{ℕ, ◌-◌, ◌+◌, arith, rules}
 use Rattle.std.proofs.lemmas.Iterator.{YieldsList-from_range, cases_from_any}
 use Rattle.tile_table.specs.Painting.{ForeignAt}
-use Rattle.tile_table.proofs.Searches.{decides_range}
+use Rattle.reservation.proofs.Searches.{decides_range}
 use Rattle.tile_table.proofs.Spans.{last_small, within_span}
 use Rattle.tile_table.proofs.meeting.meets.Goals as goal
 
