@@ -13,7 +13,7 @@ use policy::policy::Policy;
 use refusal::kinds::{CallFault, Denial, Name};
 use reservation::footprint::Footprint;
 use reservation::request::Request;
-use rivals::clashes::Clashes;
+use rivals::clashes::LawfulClashes;
 
 impl<C> Book<C> {
     // Writes a granted request down.
@@ -50,24 +50,24 @@ impl<C> Book<C> {
     }
 }
 
-impl<C: Clashes> Policy for Book<C> {
+impl<C: LawfulClashes> Policy for Book<C> {
     ghost view = { view_of };
 
     ghost gate = { λ s r. None };
 
-    ghost clash = { C.Clashes.clash };
+    ghost clash = { C.clash };
 
     ghost marks = { λ s. None };
 
-    ghost asks = { Asks view_of C.Clashes.clash };
+    ghost asks = { Asks view_of C.clash };
 
     ghost releases = { Releases view_of };
 
     ghost advances = { Advances view_of };
 
-    ghost symmetric = { C.Clashes.symmetric };
+    ghost symmetric = { C.symmetric };
 
-    ghost covers = { C.Clashes.covers };
+    ghost covers = { C.covers };
 
     ghost few = { λ s. few_requests s.ledger };
 

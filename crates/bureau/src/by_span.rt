@@ -6,7 +6,7 @@ ghost use Rattle.std.proofs.Common.{arith, rules};
 ghost use Rattle.reservation.proofs.Laws.{has_within, share_found};
 
 use reservation::footprint::Footprint;
-use rivals::clashes::Clashes;
+use rivals::clashes::{Clashes, LawfulClashes};
 
 // Whether the two spans overlap.
 fn spans_overlap(one: &Footprint, other: &Footprint) -> bool
@@ -22,6 +22,15 @@ pub struct BySpan;
 impl Clashes for BySpan {
     ghost clash = { SpanClash };
 
+    fn clashes(one: &Footprint, other: &Footprint) -> Option<bool> {
+        if one.junction != other.junction {
+            return None;
+        }
+        Some(spans_overlap(one, other))
+    }
+}
+
+impl LawfulClashes for BySpan {
     ghost symmetric = { Prim.search rules };
 
     // a cell that both have is at a tick of both spans
@@ -30,11 +39,4 @@ impl Clashes for BySpan {
         let first = has_within j x tile t one in
         let second = has_within j y tile t other in
         (omega arith, omega arith) };
-
-    fn clashes(one: &Footprint, other: &Footprint) -> Option<bool> {
-        if one.junction != other.junction {
-            return None;
-        }
-        Some(spans_overlap(one, other))
-    }
 }

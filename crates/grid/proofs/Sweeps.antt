@@ -46,10 +46,6 @@ module _ (n : ℕ) (body : Body) (i tile : ℕ) where
       let row = ltb-true (tile / 8) (4 * n) (and_parts (ltb (tile % 8) (4 * n)) (ltb (tile / 8) (4 * n)) (touched_inside e)).1 in
       omega arith
 
-  pub untouched_beyond : last_point_of n body < i → point_touches n body i tile ≡ false
-  unfolding point_touches
-  untouched_beyond h = and_right (inside n tile) (on_path && touching) (and_left on_path touching (lt-leb i (last_point_of n body) h))
-
 -- a point from which the vehicle touches the tile in step s
 pub record Passing (n : ℕ) (body : Body) (s tile : ℕ) : Type 0 where
   pub point : ℕ

@@ -48,9 +48,6 @@ module _ {P : Type 0} (c : Conduct P) (s : Stage P) (calls : List Call) where
     ran = subst (λ xs. Ran c s xs (given ++ a ∷ []) u) (sym (take_more calls i d lt)) (ran_more c s t u (take i calls) given (get_or calls i d) a p.ran made);
   }
 
-  pub playing_all : (i : ℕ) (answers : List Answer) (t : Stage P) → length calls ≤ i → Playing c s calls i answers t → Ran c s calls answers t
-  playing_all i answers t le p = subst (λ xs. Ran c s xs answers t) (take_all i calls le) p.ran
-
 -- what holds after lists of calls, over any policy that shows the laws
 module _ {P : Type 0} (clash : Junction → Request → Request → Type 0) (c : Conduct P) (lawful : Lawful clash c)
     (marks : P → Option (ℕ → ℕ → ℕ)) (told : (p : P) → Told (marks p) (c.view p)) where

@@ -118,16 +118,6 @@ module _ (j : Junction) (p q : Request) where
       let parts = and_parts (has j p on.0 at.0) (has j q on.0 at.0) on.2 in
       (on.0, at.0, parts.0, parts.1)
 
-  -- at a tick that lies outside one of the spans they share no cell
-  pub no_cell : (t : ℕ) → ((tile : ℕ) → (has j p tile t ≡ true) × (has j q tile t ≡ true) → ⊥) → some 64 (both j p q t) ≡ false
-  no_cell t never = some_never 64 (both j p q t) (λ tile below e. never tile (and_parts _ _ e))
-
-  pub before_one : (t : ℕ) → t + j.buffer < max p.entry q.entry → some 64 (both j p q t) ≡ false
-  before_one t h = no_cell t (λ tile e.
-      let one = has_within j p tile t e.0 in
-      let other = has_within j q tile t e.1 in
-      omega arith)
-
   -- where they share a cell, both are in their spans
   pub shared_within : (t : ℕ) → some 64 (both j p q t) ≡ true
       → (max p.entry q.entry ≤ t + j.buffer) × (t ≤ min (last_tick_of j p) (last_tick_of j q))
@@ -145,20 +135,6 @@ module _ (j : Junction) (p q : Request) where
       (λ e.
       let w = share_found e in
       d.1 (w.1, some_at 64 (both j p q w.1) w.0 (has_tile_lem j p w.0 w.1 w.2) (and_from _ _ w.2 w.3)))
-
-  -- they share none where they share none at a tick up to the end of one span
-  pub share_none : (m : ℕ) → ((t : ℕ) → t < m → some 64 (both j p q t) ≡ false) → min (last_tick_of j p) (last_tick_of j q) < m → share j p q ≡ false
-  share_none m apart end = ⊎_elim
-      (λ e.
-      let w = share_found e in
-      let tile = w.0 in
-      let t = w.1 in
-      let one = has_within j p tile t w.2 in
-      let other = has_within j q tile t w.3 in
-      let shared = some_at 64 (both j p q t) tile (has_tile_lem j p tile t w.2) (and_from _ _ w.2 w.3) in
-      absurd (both_ways _ (apart t (omega arith)) shared))
-      (λ e. e)
-      (cases_Bool (share j p q))
 
 pub swapped : (j : Junction) (p q : Request) → SharesCell j p q → SharesCell j q p
 swapped j p q w = (w.0, w.1, w.3, w.2)

@@ -28,13 +28,6 @@ module _ (w : View) (r : Request) where
   screens_stopped g (inr (p, inr (q, inl name))) = inr (p, inr (q, inl (name.0, let e = name.1 in cc)))
   screens_stopped g (inr (p, inr (q, inr (s, e)))) = cc
 
-  -- one that is screened and refused has that answer, whatever clashes
-  pub screened_answer : (clash : Junction → Request → Request → Type 0) (d : Denial) → Screens w r (Err d) → Answer clash w None r (Err d)
-  screened_answer clash d (inl range) = inl (range.0, let e = range.1 in cc)
-  screened_answer clash d (inr (p, inl time)) = inr (p, inl (time.0, let e = time.1 in cc))
-  screened_answer clash d (inr (p, inr (q, inl name))) = inr (p, inr (q, inl (name.0, let e = name.1 in cc)))
-  screened_answer clash d (inr (p, inr (q, inr (s, told)))) = let e = told.1 in cc
-
   -- one with a footprint is stopped by no row
   pub screened_footprint : (f : Footprint) → Screens w r (Ok f) → Stopped w None r (Ok tt) × (f.junction ≡ w.junction) × (f.request ≡ r)
   screened_footprint f (inl range) = let e = range.1 in cc

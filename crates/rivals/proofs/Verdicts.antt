@@ -68,15 +68,3 @@ module _ (clash : Junction → Request → Request → Type 0) (w : View) (r : R
   pub grant_verdict : Sought rival w.ledger None → length w.ledger < 64 → Answer clash w None r (Ok tt)
   grant_verdict none room =
       screened_past w r Denied (Judged clash w None r) (Ok tt) past (inr ((λ no. both_ways false refl no), inr (free none, inr ((λ full. omega arith), refl))))
-
--- what was found of some requests, in other words for the same
-pub sought_same : (clash : Junction → Request → Request → Type 0) (j k : Junction) (r q : Request) (xs ys : List Standing) (o : Option Name)
-    → j ≡ k → r ≡ q → xs ≡ ys → Sought (Rival clash j r) (requests xs) o → Sought (Rival clash k q) (requests ys) o
-sought_same clash j k r q xs ys o ej er ex h =
-    subst (λ zs. Sought (Rival clash k q) (requests zs) o) ex
-    (subst (λ s. Sought (Rival clash k s) (requests xs) o) er
-    (subst (λ l. Sought (Rival clash l r) (requests xs) o) ej h))
-
-pub stopped_same : (w : View) (own : Option Reason) (r : Request) (standing : Option ℕ) (o : Result (Unit {0}) Reason) → standing ≡ found (name_of r) w.ledger
-    → Screened w.junction w.clock standing r (λ g p. p ≡ Err g) (λ p. p ≡ refused_by own) o → Stopped w own r o
-stopped_same w own r standing o is h = subst (λ s. Screened w.junction w.clock s r (λ g p. p ≡ Err g) (λ p. p ≡ refused_by own) o) is h

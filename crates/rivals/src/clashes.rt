@@ -10,17 +10,20 @@ ghost use Rattle.reservation.proofs.Laws.{locks_symmetric, share_locks, share_sy
 
 use reservation::footprint::Footprint;
 
-// A way to clash, and its two laws: who is named first does not matter, and requests that share a cell clash.
+// A way to clash.
 pub trait Clashes {
     ghost clash: { Junction → Request → Request → Type 0 };
 
     // Whether the two clash; nothing where they are not of one junction.
     fn clashes(one: &Footprint, other: &Footprint) -> Option<bool>
         ensures { OfOne one.now.junction other.now.junction (λ b. Decides b (clash one.now.junction one.now.request other.now.request)) result };
+}
 
-    ghost symmetric: { (j : Junction) (x y : Request) → clash j x y → clash j y x };
+// One that a policy may use, by two laws: who is named first does not matter, and requests that share a cell clash.
+pub trait LawfulClashes: Clashes {
+    ghost symmetric: { (j : Junction) (x y : Request) → Self.clash j x y → Self.clash j y x };
 
-    ghost covers: { (j : Junction) (x y : Request) → share j x y ≡ true → clash j x y };
+    ghost covers: { (j : Junction) (x y : Request) → share j x y ≡ true → Self.clash j x y };
 }
 
 // They clash where they share a cell.
@@ -32,10 +35,6 @@ pub struct ByPath;
 impl Clashes for ByCell {
     ghost clash = { CellClash };
 
-    ghost symmetric = { λ j x y e. sym (share_symmetric j x y) ∙ e };
-
-    ghost covers = { Prim.search rules };
-
     fn clashes(one: &Footprint, other: &Footprint) -> Option<bool> {
         one.shares_cell(other)
     }
@@ -44,11 +43,19 @@ impl Clashes for ByCell {
 impl Clashes for ByPath {
     ghost clash = { PathClash };
 
-    ghost symmetric = { λ j x y e. sym (locks_symmetric j x y) ∙ e };
-
-    ghost covers = { λ j x y e. share_locks j x y e };
-
     fn clashes(one: &Footprint, other: &Footprint) -> Option<bool> {
         one.locks(other)
     }
+}
+
+impl LawfulClashes for ByCell {
+    ghost symmetric = { λ j x y e. sym (share_symmetric j x y) ∙ e };
+
+    ghost covers = { Prim.search rules };
+}
+
+impl LawfulClashes for ByPath {
+    ghost symmetric = { λ j x y e. sym (locks_symmetric j x y) ∙ e };
+
+    ghost covers = { λ j x y e. share_locks j x y e };
 }
