@@ -14,22 +14,13 @@ use super::tiles::TileSet;
 // A row of the table has this many points, and no path has more.
 const POINTS: usize = 48;
 
-// The word of the tiles that are touched from point `i` of a row, or an earlier one.
-fn up_to(row: usize, i: usize) -> u64
+// The word of a table for point `i` of a row.
+fn word(table: &[u64; 1344], row: usize, i: usize) -> u64
     requires row { row < 28 }
     requires point { i < 48 }
-    ensures { result ≡ slice_index up_table (48 * row + i) }
+    ensures { result ≡ slice_index table.now (48 * row + i) }
 {
-    UP[POINTS * row + i]
-}
-
-// The word of the tiles that are touched from point `i` of a row, or a later one.
-fn down_from(row: usize, i: usize) -> u64
-    requires row { row < 28 }
-    requires point { i < 48 }
-    ensures { result ≡ slice_index down_table (48 * row + i) }
-{
-    DOWN[POINTS * row + i]
+    table[POINTS * row + i]
 }
 
 impl Course {
@@ -59,7 +50,7 @@ impl Course {
         ensures { Exactly result (points_touch self.now.junction.lanes self.now.body first last) }
     {
         TileSet {
-            bits: up_to(self.row, last as usize) & down_from(self.row, first as usize),
+            bits: word(&UP, self.row, last as usize) & word(&DOWN, self.row, first as usize),
         }
     }
 }

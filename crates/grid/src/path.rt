@@ -31,6 +31,7 @@ pub struct Path {
 }
 
 impl Path {
+    // Its body and its row, which stand in the path itself, where callers read the body.
     pub(crate) fn course(&self) -> Course
         ensures junction { result.junction ≡ self.now.junction }
         ensures body { result.body ≡ self.now.body }

@@ -36,10 +36,7 @@ fn with_limit(limits: [u32; 8], lane: u64, limit: u32) -> [u32; 8]
 fn is_lowering(denial: &Denial) -> bool
     ensures { result ≡ lowers denial.now }
 {
-    match denial {
-        Denial::Because(reason) => (31..=35).contains(&reason.number()),
-        Denial::Clash(_) => true,
-    }
+    (31..=35).contains(&denial.number())
 }
 
 // The limits after an answer from below: a grant lifts the lane's, and a refusal may lower it.

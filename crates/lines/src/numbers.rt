@@ -8,6 +8,7 @@ ghost use Rattle.lines.specs.Parts.{DenialIn, RowIn};
 use message::kinds::Kind;
 use message::row::MessageRow;
 use refusal::kinds::{Denial, Name, Reason};
+use refusal::numbers::CLASH;
 
 // The reason's number and the name of the clashing request, as a line has them. No `From`: three numbers have no name of
 // their own that would tell what they are.
@@ -16,7 +17,7 @@ pub(crate) fn denial_numbers(denial: Denial) -> [u32; 3]
 {
     match denial {
         Denial::Because(reason) => [reason.number(), 0, 0],
-        Denial::Clash(name) => [34, name.vehicle, name.number],
+        Denial::Clash(name) => [CLASH, name.vehicle, name.number],
     }
 }
 
@@ -25,7 +26,7 @@ fn denial_of(reason: u32, vehicle: u32, number: u32) -> Option<Denial>
     requires { Takes Field.Reason reason }
     ensures { DenialIn reason vehicle number result }
 {
-    if reason == 34 {
+    if reason == CLASH {
         if vehicle == 0 || number == 0 {
             return None;
         }

@@ -5,13 +5,13 @@ ghost use Rattle.message.specs.Fields.{Takes, fields_of};
 use super::kinds::{Field, Kind};
 use super::ranges::{is_distance, is_entry, is_number, is_vehicle};
 use refusal::kinds::Reason;
+use refusal::numbers::CLASH;
 
 // Whether REJECT may carry the number.
 fn is_carried(number: u32) -> bool
     ensures { Decides result (Takes Field.Reason number) }
 {
-    // 34 is a clash
-    number == 34 || Reason::try_from(number).is_ok()
+    number == CLASH || Reason::try_from(number).is_ok()
 }
 
 impl Kind {

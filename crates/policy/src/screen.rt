@@ -20,7 +20,8 @@ fn in_time(path: &Path, clock: u32, request: &Request) -> bool
 }
 
 // Refuses the request before a policy is asked that lies below this gate: for its range, its time, because
-// its name stands, or by the gate.
+// its name stands, or by the gate. The junction and the clock are asked for one by one: each policy holds them in a form of
+// its own, and a struct for the two would be made for this call alone.
 pub fn stop_rows(
     junction: Junction,
     clock: u32,

@@ -7,7 +7,7 @@ use super::footprint::Footprint;
 use grid::tiles::TileSet;
 
 impl Footprint {
-    // The word of the tiles at the tick.
+    // The word of the tiles at the tick. It stands apart, so that a must-fail edit of `tiles_at` is refused in src/.
     fn word_at(&self, tick: u32) -> u64
         ensures { CellsAt self.now.junction self.now.request tick result }
     {

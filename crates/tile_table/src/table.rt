@@ -7,6 +7,8 @@ use super::window::Window;
 use ledger::ledger::Ledger;
 use marks::marks::Marks;
 
+// Not a `Book<ByCell>` with marks beside it: this searches for who is in the way only where marks are met. A book's steps
+// without that search would ask their caller for what it found, and no public call has a `requires`.
 #[derive(Drop)]
 pub struct TileTable {
     pub(crate) window: Window,
