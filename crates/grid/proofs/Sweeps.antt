@@ -1,7 +1,7 @@
 -- The tiles of steps are those of the points between them. Assumes nothing.
 use Rattle.std.proofs.Common.{◌≡◌, ℕ, suc, ◌+◌, ◌-◌, ◌*◌, ◌/◌, ◌%◌, ◌<◌, ◌≤◌, min, Bool, true, false, ◌&&◌, ltb, leb, ap, subst, ⊎_elim, mul-le-mul_right, mod-lt, suc-mul, div-add-mod', arith}
 use Rattle.std.proofs.lemmas.Nat.{div_below}
-use Rattle.std.proofs.lemmas.Bool.{and_from, and_left, and_parts, and_right, cases_lt, le-leb, leb-true, lt-leb, lt-ltb, ltb-true}
+use Rattle.std.proofs.lemmas.Bool.{and_from, and_parts, cases_lt, le-leb, leb-true, lt-ltb, ltb-true}
 use Rattle.grid.specs.declared.kinds.Body.{Body}
 use Rattle.grid.specs.Some.{some}
 use Rattle.grid.specs.Bodies.{Fits}

@@ -1,12 +1,12 @@
 -- The laws by which the layers above know the cells. Assumes nothing.
 use Rattle.std.proofs.Common.{◌≡◌, ℕ, suc, ◌+◌, ◌-◌, ◌*◌, ◌<◌, ◌≤◌, min, max, Bool, true, false, ◌&&◌, eqb, leb, Decides, ap₂, ⊎_elim, arith}
 use mathlib.Core.Bool.{and_comm}
-use Rattle.std.proofs.lemmas.Bool.{and_from, and_parts, both_ways, cases_Bool, eqb-true, le-leb, leb-true}
+use Rattle.std.proofs.lemmas.Bool.{and_from, and_parts, cases_Bool, eqb-true, le-leb, leb-true}
 use Rattle.grid.specs.declared.junction.Junction.{Junction}
 use Rattle.grid.specs.Paths.{inside}
 use Rattle.grid.specs.Some.{some}
 use Rattle.grid.specs.Steps.{duration_of, path_touches, step_touches, steps_touch}
-use Rattle.grid.proofs.Somes.{same_tests, some_at, some_found, some_never, some_tests}
+use Rattle.grid.proofs.Somes.{same_tests, some_at, some_found, some_tests}
 use Rattle.grid.proofs.Sweeps.{step_found, touched_below, touched_inside, touched_point}
 use Rattle.grid.proofs.Same.{same_junction}
 use Rattle.reservation.specs.declared.request.Request.{Request}

@@ -18,9 +18,9 @@ carried : (n : ℕ) (r : Result Reason NoReason) → ReasonOf n r → (n ≡ 34 
 carried n (Ok r) h other = (λ _. (Because r, h), λ _. refl)
 carried n (Err e) h other = (λ t. absurd (true≢false (sym t)), λ p. absurd (none_carried n h.1 other p))
 
-pub returns-then-number-eq34 : goal.returns-then-number-eq34
-returns-then-number-eq34 c =
-    (λ _. (Clash (record { vehicle = 1; number = 1 }), sym c.if-number-eq34.true), λ _. eq-eqb _ 34 c.if-number-eq34.true)
+pub returns-then-number-eq-CLASH : goal.returns-then-number-eq-CLASH
+returns-then-number-eq-CLASH c =
+    (λ _. (Clash (record { vehicle = 1; number = 1 }), sym c.if-number-eq-CLASH.true), λ _. eq-eqb _ 34 c.if-number-eq-CLASH.true)
 
-pub returns-else-number-eq34 : goal.returns-else-number-eq34
-returns-else-number-eq34 c = rw c.is_ok.ensures.value (carried c.args.number c.try_from.result c.try_from.ensures c.if-number-eq34.false)
+pub returns-else-number-eq-CLASH : goal.returns-else-number-eq-CLASH
+returns-else-number-eq-CLASH c = rw c.is_ok.ensures.value (carried c.args.number c.try_from.result c.try_from.ensures c.if-number-eq-CLASH.false)

@@ -1,6 +1,5 @@
 use Rattle.std.proofs.Common.{rules}
 use Rattle.grid.specs.Tables.{row_of}
-use Rattle.grid.proofs.Fitting.{fits_parts}
 use Rattle.grid.proofs.course.Course.new.Goals as goal
 
 pub invariant_of-result : goal.invariant_of-result

@@ -1,5 +1,5 @@
 -- Each entry of the tables is the one that the rules give: antt computes them all.
-use Rattle.std.proofs.Common.{◌≡◌, ℕ, ◌+◌, ◌*◌, get_or, refl, ap, ◌∙◌, ap₂, arith}
+use Rattle.std.proofs.Common.{◌≡◌, ◌+◌, ◌*◌, get_or, ap, ◌∙◌, ap₂, arith}
 use lib.Bits.{bit_and}
 use Rattle.grid.specs.Paths.{last_point_of, point_of_path, point_touches}
 use Rattle.grid.specs.Sets.{bit}

@@ -1,4 +1,4 @@
-use Rattle.std.proofs.Common.{◌≡◌, ap, ◌∙◌, ap₂, arith, rules}
+use Rattle.std.proofs.Common.{arith, rules}
 use Rattle.grid.specs.Paths.{last_point_of, point_of_path}
 use Rattle.grid.proofs.Fitting.{fits_parts}
 use Rattle.grid.proofs.path.Path.point_at.Goals as goal

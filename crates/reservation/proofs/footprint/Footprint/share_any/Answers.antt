@@ -27,7 +27,7 @@ returns c =
     let first : ℕ = c.saturating_sub-first.result in
     let end : ℕ = c.min-last.result + 1 in
     shares j f.request g.request c.any.result (share_decided j f.request g.request c.any.result
-    (decides_range at first end (λ t e. 
+    (decides_range at first end (λ t e.
     let span = shared_within j f.request g.request t e in
     (omega arith, omega arith)) c.any.result
     (cases_from_any _ _ c.any.result at (λ t. at t → ⊥) c.any.ensures.ran (YieldsList-from_range first end (end - first) (cc) (cc)) (λ x q k. sym (same x) ∙ search rules) (λ x q k. search rules))))
