@@ -1,4 +1,4 @@
-// A message comes to the manager or to its vehicle.
+// A message comes to the manager or to its vehicle. Why a run call takes run, policy and memories one by one: see `arrive`.
 ghost use Rattle.run.specs.Calls.{Delivers};
 ghost use Rattle.run.specs.Worlds.{conduct, stage};
 

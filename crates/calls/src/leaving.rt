@@ -1,4 +1,4 @@
-// A message leaves the mail.
+// A message leaves the mail. Why a run call takes run, policy and memories one by one: see `arrive`.
 ghost use Rattle.lent.specs.Moves.{Among, Settled};
 ghost use Rattle.run.specs.Calls.{Loses};
 ghost use Rattle.run.specs.Worlds.{conduct, stage};

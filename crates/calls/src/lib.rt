@@ -1,5 +1,5 @@
 // The run calls that are no vehicle's own: a run is opened, a message is delivered, lost or repeated, and a tick passes. Each
-// begins with the rows that refuse it, and alters nothing where one of them does.
+// begins with its refusals, and alters nothing where it is refused.
 #![tactic(auto)]
 
 pub mod delivering;

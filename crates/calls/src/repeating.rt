@@ -1,4 +1,4 @@
-// The line brings a message twice.
+// The line brings a message twice. Why a run call takes run, policy and memories one by one: see `arrive`.
 ghost use Rattle.run.specs.Calls.{Repeats};
 ghost use Rattle.run.specs.Worlds.{conduct, stage};
 

@@ -1,4 +1,4 @@
-// The clock goes on.
+// The clock goes on. Why a run call takes run, policy and memories one by one: see `arrive`.
 ghost use Rattle.std.specs.Prelude.{◌≡◌, MatchResult};
 ghost use Rattle.run.specs.Calls.{Ticks};
 ghost use Rattle.run.specs.Worlds.{conduct, stage};

@@ -1,4 +1,4 @@
-// Any run call, by its name.
+// Any run call, by its name. Why it takes run, policy and memories one by one: see `arrive`.
 ghost use Rattle.std.specs.Prelude.{◌≡◌};
 ghost use Rattle.run.specs.Calls.{Makes};
 ghost use Rattle.run.specs.Worlds.{conduct, stage};

@@ -1,5 +1,7 @@
-// The memories that a caller lends to a run: what every call checks of them, and how mail moves there.
+// The memories that a caller lends to a run: what every call checks of them, how mail moves there, and where a vehicle may
+// stand behind another.
 #![tactic(auto)]
 
 pub mod mail;
+pub mod places;
 pub mod scene;

@@ -1,4 +1,5 @@
-// How mail moves in lent memory.
+// How mail moves in lent memory. Memory and count are no struct: the memory is the caller's and the count is the run's, and
+// the rules hold them apart.
 ghost use Rattle.std.specs.Prelude.{◌≡◌, ◌-◌, ◌<◌, ◌≤◌, ◌++◌, length, take, drop};
 ghost use Rattle.std.specs.List.{remove};
 ghost use Rattle.lent.specs.Moves.{Among, Posts, Settled};

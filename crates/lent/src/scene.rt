@@ -47,7 +47,7 @@ impl<P: Policy> Scene<'_, P> {
         self.run.junction == self.policy.junction() && self.run.clock == self.policy.clock()
     }
 
-    // Whether a call may begin, or which of these rows refuses it.
+    // Whether a call may begin, or why it is refused.
     pub fn ready(&self) -> Result<(), CallFault>
         ensures answer { Ruled (common P.view (seen self.now)) Nothing (Unit {0}) result }
     {

@@ -59,7 +59,7 @@ fn decide<P: Policy>(policy: &mut P, row: VehicleRow, message: MessageRow) -> Re
             number,
             base,
             ..
-        } if !stands(policy, vehicle, base) => deny(policy, row, Name { vehicle, number }, base),
+        } if !stands(policy, Name { vehicle, number: base }) => deny(policy, row, Name { vehicle, number }, base),
         MessageRow::Change {
             vehicle,
             number,

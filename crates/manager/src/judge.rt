@@ -13,11 +13,11 @@ use reservation::request::Request;
 use vehicle::agent::Reaction;
 use vehicle::rows::VehicleRow;
 
-// Whether the vehicle's request of that number stands: a change gives its base as a number, and not as a name.
-pub(crate) fn stands<P: Policy>(policy: &P, vehicle: u32, number: u32) -> bool
-    ensures { Decides result (Based (P.view policy.now) vehicle (Some number)) }
+// Whether the request of that name stands.
+pub(crate) fn stands<P: Policy>(policy: &P, name: Name) -> bool
+    ensures { Decides result (Based (P.view policy.now) name.vehicle (Some name.number)) }
 {
-    policy.find(Name { vehicle, number }).is_some()
+    policy.find(name).is_some()
 }
 
 // The reply to a name that the manager has heard before, by whether its request still stands.

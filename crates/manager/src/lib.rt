@@ -2,5 +2,5 @@
 #![tactic(auto)]
 
 pub mod act;
-pub mod clear;
-pub mod judge;
+mod clear;
+mod judge;

@@ -2,16 +2,8 @@
 ghost use Rattle.std.specs.Prelude.{◌≡◌, if◌then◌else◌};
 ghost use Rattle.vehicle.specs.States.{is_in_lane};
 ghost use Rattle.run.specs.Ticks.{closer};
-ghost use Rattle.run.specs.Worlds.{place_behind_of};
 
 use vehicle::rows::VehicleRow;
-
-// The least distance of a vehicle behind this one.
-pub(crate) fn place_behind(row: &VehicleRow) -> u64
-    ensures { result ≡ place_behind_of row.now }
-{
-    row.distance as u64 + row.body.length as u64 + 2
-}
 
 // How far the vehicle is from the line after the tick.
 fn closer_by(row: &VehicleRow, place: Option<u64>) -> u32

@@ -3,7 +3,7 @@ ghost use Rattle.std.specs.Prelude.{◌≡◌, ℕ, length, Some, None, slice_in
 ghost use Rattle.grid.specs.Bodies.{lane_number_of};
 ghost use Rattle.ticking.specs.Turning.{noted};
 
-use super::distances::place_behind;
+use lent::places::place_behind;
 use vehicle::rows::VehicleRow;
 
 // The place behind the last vehicle that was seen in each lane, by lane number: four approaches have at most two lanes each.

@@ -26,8 +26,8 @@ fn is_over(duration: u32, clock: u32, held: Claim, lag: i32) -> bool
     end + lag as i64 <= clock as i64
 }
 
-// Whether the vehicle has come to its end. Here and below a row whose body fits, and no record of a vehicle: to make
-// one, every row would have to be checked at every tick.
+// Whether the vehicle has come to its end. Here and below the answer is told of a row whose body fits: `turn_all` is public,
+// takes any rows and requires nothing, and to make a record would be to check every row at every tick.
 fn is_ending(now: Now, row: &VehicleRow) -> bool
     ensures { fits now.junction.lanes row.now.body ≡ true → Decides result (Ends (duration_of now.junction.lanes row.now.body) now.clock row.now.state) }
 {

@@ -1,5 +1,5 @@
 // From rows to records: the ranges of a row's numbers.
-ghost use Rattle.std.specs.Prelude.{◌≡◌, ◌≤◌, Decides};
+ghost use Rattle.std.specs.Prelude.{◌≡◌, Decides};
 ghost use Rattle.std.specs.List.{AllByRecursion};
 ghost use Rattle.vehicle.specs.Records.{Good, RecordOf};
 ghost use Rattle.vehicle.specs.Rows.{good_claim, good_lag, good_numbers, good_row, good_state};
@@ -18,12 +18,11 @@ impl Claim {
     }
 }
 
-// Whether the vehicle is at most a buffer off its plan.
-fn lag_is_good(buffer: u32, lag: i32) -> bool
-    requires { buffer ≤ 4 }
-    ensures { result ≡ good_lag buffer lag }
+// Whether a vehicle of this lag is at most a buffer off its plan.
+pub fn lag_fits(junction: Junction, lag: i64) -> bool
+    ensures answer { result ≡ good_lag junction.buffer lag }
 {
-    let slack = buffer as i32;
+    let slack = junction.buffer as i64;
     (lag >= -slack) & (lag <= slack)
 }
 
@@ -36,7 +35,7 @@ impl State {
             State::Asking(claim) | State::Holding(claim) => claim.is_good(),
             State::Changing { held, awaited } => held.is_good() & awaited.is_good(),
             State::Crossing { held, lag, nudged } => held.is_good()
-                & lag_is_good(junction.buffer, *lag)
+                & lag_fits(junction, *lag as i64)
                 & (*nudged <= 1_000_000),
             State::Done { tick } => *tick <= 1_000_000,
         }

@@ -18,7 +18,8 @@ pub enum State {
     Holding(Claim),
     // has a reservation and awaits the answer to a change
     Changing { held: Claim, awaited: Claim },
-    // is on its way across, by so many ticks later than planned, and was nudged last at that tick
+    // is on its way across, by so many ticks later than planned, and was nudged last at that tick: 0 is never, since none is
+    // nudged at tick 0
     Crossing { held: Claim, lag: i32, nudged: u32 },
     // has crossed, at that tick
     Done { tick: u32 },

@@ -30,9 +30,6 @@ impl State {
     pub fn in_lane(&self) -> bool
         ensures answer { result ≡ is_in_lane self.now }
     {
-        match self {
-            State::Crossing { .. } | State::Done { .. } => false,
-            _ => true,
-        }
+        !matches!(self, State::Crossing { .. } | State::Done { .. })
     }
 }

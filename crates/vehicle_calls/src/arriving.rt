@@ -7,6 +7,7 @@ ghost use Rattle.run.specs.Worlds.{conduct, last_of_lane, place_behind_of, stage
 use super::lanes::last_in;
 use grid::junction::Junction;
 use grid::kinds::Body;
+use lent::places::place_behind;
 use lent::scene::Scene;
 use message::row::MessageRow;
 use policy::policy::Policy;
@@ -25,9 +26,7 @@ fn fits_approach(junction: Junction, body: Body, distance: u32) -> bool
 fn is_clear(rows: &[VehicleRow], body: Body, distance: u32) -> bool
     ensures { Decides result (IfSome (last_of_lane (lane_number_of body) rows.now) (λ last. place_behind_of last ≤ distance)) }
 {
-    last_in(body.lane_number(), rows).is_none_or(|last| {
-        last.distance as u64 + last.body.length as u64 + 2 <= distance as u64
-    })
+    last_in(body.lane_number(), rows).is_none_or(|last| place_behind(&last) <= distance as u64)
 }
 
 // The ten run calls take run, policy and memories one by one: so each says by its types which of them it cannot alter. A

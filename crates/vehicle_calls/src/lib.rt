@@ -1,5 +1,5 @@
 // The run calls by which vehicles arrive, ask for reservations, change and cancel them, and cross early or late. Each
-// begins with the rows that refuse it, and alters nothing where one of them does.
+// begins with its refusals, and alters nothing where it is refused.
 #![tactic(auto)]
 
 pub mod arriving;

@@ -10,6 +10,7 @@ use message::row::MessageRow;
 use policy::policy::Policy;
 use refusal::kinds::CallFault;
 use run::run::Run;
+use vehicle::check::lag_fits;
 use vehicle::rows::{State, VehicleRow};
 
 fn is_one_tick(by: i32) -> bool
@@ -18,23 +19,15 @@ fn is_one_tick(by: i32) -> bool
     by == 1 || by == -1
 }
 
-// Whether a vehicle of this lag is at most a buffer off its plan.
-fn is_within(junction: Junction, lag: i64) -> bool
-    ensures { result ≡ good_lag junction.buffer lag }
-{
-    let slack = junction.buffer as i64;
-    (-slack..=slack).contains(&lag)
-}
-
 // The lag later by so many ticks, if that is within the buffer.
 fn moved_lag(junction: Junction, lag: i32, by: i32) -> Option<i32>
     ensures { MatchOption result (good_lag junction.buffer (lag +ℤ by) ≡ false) (λ moved. (moved ≡ lag +ℤ by) × (good_lag junction.buffer (lag +ℤ by) ≡ true)) }
 {
-    let moved = lag as i64 + by as i64;
-    if !is_within(junction, moved) {
+    let moved = lag.checked_add(by)?;
+    if !lag_fits(junction, moved as i64) {
         return None;
     }
-    Some(moved as i32)
+    Some(moved)
 }
 
 // The crossing vehicle falls behind by one tick or makes one up, once in a tick at most, and within the buffer.
