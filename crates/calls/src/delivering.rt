@@ -3,7 +3,7 @@ ghost use Rattle.run.specs.Calls.{Delivers};
 ghost use Rattle.run.specs.Worlds.{conduct, stage};
 
 use super::leaving::take_out;
-use lent::scene::Scene;
+use lent::scene::{Scene, has_arrived};
 use manager::act::act;
 use message::row::MessageRow;
 use policy::policy::Policy;
@@ -31,7 +31,7 @@ pub fn deliver<P: Policy>(
     };
     let sent = scene.message(message)?;
     let vehicle = sent.vehicle();
-    if !scene.has_arrived(vehicle) {
+    if !has_arrived(run, vehicle) {
         take_out(run, mail, message, None);
         return Ok(());
     }

@@ -25,6 +25,13 @@ pub struct Scene<'a, P> {
     pub mail: &'a [MessageRow],
 }
 
+// Whether there is a vehicle of that number, from 1.
+pub fn has_arrived(run: &Run, vehicle: u32) -> bool
+    ensures answer { Decides result ((1 ≤ vehicle) × (vehicle ≤ run.now.vehicles)) }
+{
+    (1..=run.vehicles).contains(&(vehicle as usize))
+}
+
 impl<P: Policy> Scene<'_, P> {
     fn is_whole(&self) -> bool
         ensures { Decides result (Whole self.now.run.now self.now.vehicles.now self.now.mail.now) }
@@ -80,19 +87,12 @@ impl<P: Policy> Scene<'_, P> {
         })
     }
 
-    // Whether there is a vehicle of that number, from 1.
-    pub fn has_arrived(&self, vehicle: u32) -> bool
-        ensures answer { Decides result ((1 ≤ vehicle) × (vehicle ≤ self.now.run.now.vehicles)) }
-    {
-        (1..=self.run.vehicles).contains(&(vehicle as usize))
-    }
-
     // The record of the vehicle of that number, from 1, if a call on it may begin.
     pub fn vehicle(&self, vehicle: u32) -> Result<Vehicle, CallFault>
         ensures answer { Ruled (of_vehicle P.view (seen self.now) vehicle) (VehicleAt (seen self.now) vehicle) (Unit {0}) result }
     {
         self.ready()?;
-        if !self.has_arrived(vehicle) {
+        if !has_arrived(self.run, vehicle) {
             return Err(CallFault::NoVehicle);
         }
         Ok(Vehicle {
