@@ -1,15 +1,12 @@
 -- What the rows before a clash make of a request. Assumes nothing.
 use Rattle.std.proofs.Common.{◌≡◌, Some, None, Ok, Err, Option, refl, inl, inr}
 use Rattle.std.specs.Option.{ok_or}
-use Rattle.grid.specs.declared.junction.Junction.{Junction}
-use Rattle.refusal.specs.declared.kinds.Denial.{Denial}
 use Rattle.refusal.specs.declared.kinds.Denial.TheVariants.{Because}
 use Rattle.refusal.specs.declared.kinds.Reason.{Reason}
 use Rattle.refusal.specs.declared.kinds.Reason.TheVariants.{Range}
 use Rattle.reservation.specs.declared.footprint.Footprint.{Footprint}
 use Rattle.reservation.specs.declared.request.Request.{Request}
 use Rattle.reservation.specs.Made.{FootprintOf}
-use Rattle.policy.specs.Answers.{Answer}
 use Rattle.policy.specs.Layers.{Stopped}
 use Rattle.policy.specs.Views.{View}
 use Rattle.policy.proofs.Layers.{screened_past}

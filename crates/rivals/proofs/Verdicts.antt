@@ -1,19 +1,16 @@
 -- What a policy without a gate answers, once nothing stops the request. Assumes nothing.
-use Rattle.std.proofs.Common.{◌≡◌, ℕ, ◌<◌, ◌≤◌, true, false, List, [], ◌∷◌, length, Some, None, Ok, Err, Option, Result, sym, refl, ap, subst, inl, inr, arith}
+use Rattle.std.proofs.Common.{◌≡◌, ◌<◌, ◌≤◌, true, false, List, [], ◌∷◌, length, Some, None, Ok, Err, sym, refl, ap, subst, inl, inr, arith}
 use Rattle.std.specs.List.{ContainsAt as Has}
 use Rattle.std.proofs.ByRecursion.{has_append_left, has_append_right, has_push}
 use Rattle.std.proofs.lemmas.Bool.{both_ways}
 use Rattle.grid.specs.declared.junction.Junction.{Junction}
 use Rattle.refusal.specs.declared.kinds.Denial.TheVariants.{Because, Clash}
 use Rattle.refusal.specs.declared.kinds.Name.{Name}
-use Rattle.refusal.specs.declared.kinds.Reason.{Reason}
 use Rattle.refusal.specs.declared.kinds.Reason.TheVariants.{LedgerFull}
 use Rattle.reservation.specs.declared.request.Request.{Request}
-use Rattle.reservation.specs.Requests.{in_range, name_of}
-use Rattle.ledger.specs.declared.standing.Standing.{Standing}
-use Rattle.ledger.specs.Standings.{requests}
-use Rattle.policy.specs.Answers.{Answer, Bars, Denied, Earliest, Judged, Screened}
-use Rattle.policy.specs.Layers.{Stopped, refused_by}
+use Rattle.reservation.specs.Requests.{in_range}
+use Rattle.policy.specs.Answers.{Answer, Bars, Denied, Earliest, Judged}
+use Rattle.policy.specs.Layers.{Stopped}
 use Rattle.policy.specs.Views.{View, found}
 use Rattle.policy.proofs.Layers.{screened_past}
 use Rattle.rivals.specs.Rivals.{Rival, Sought}
