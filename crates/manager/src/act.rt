@@ -24,8 +24,9 @@ fn tell<P: Policy>(policy: &P, vehicle: u32, row: VehicleRow, message: MessageRo
 }
 
 // The manager's decision by the kind of the message: a number below the last one that was heard is old, that number
-// itself has its answer, and a higher one is judged anew. An answer goes to the vehicle. It stands apart from `act`, whose
-// two clauses on other outcomes are proved at one return and not at nine.
+// itself has its answer, and a higher one is judged anew. An answer goes to the vehicle. It stands apart from `act`, and both
+// say `Acts`: tried in one function, which owes the clauses on other outcomes at every arm, a wrong arm for DONE, or one
+// that alters `heard` there, is refused only in proofs/.
 fn decide<P: Policy>(policy: &mut P, row: VehicleRow, message: MessageRow) -> Reaction
     ensures { Acts (conduct P.view P.asks P.releases P.advances) policy.old row message (outcome result.row policy.new result.reply) }
 {
@@ -59,7 +60,13 @@ fn decide<P: Policy>(policy: &mut P, row: VehicleRow, message: MessageRow) -> Re
             number,
             base,
             ..
-        } if !stands(policy, Name { vehicle, number: base }) => deny(policy, row, Name { vehicle, number }, base),
+        } if !stands(
+            policy,
+            Name {
+                vehicle,
+                number: base,
+            },
+        ) => deny(policy, row, Name { vehicle, number }, base),
         MessageRow::Change {
             vehicle,
             number,
