@@ -28,7 +28,7 @@ pub(crate) struct Game {
 }
 
 // So many calls are held back at most.
-const MOST: usize = 4096;
+const MOST_CALLS: usize = 4096;
 
 impl Game {
     pub(crate) fn new(heap: Global, memory: Memory) -> Game {
@@ -44,7 +44,7 @@ impl Game {
     pub(crate) fn note(&mut self, call: Call, line: u64) -> Result<bool, AllocError> {
         self.calls.push(call)?;
         self.lines.push(line)?;
-        Ok(self.calls.len() >= MOST)
+        Ok(self.calls.len() >= MOST_CALLS)
     }
 
     fn forget(&mut self) {
