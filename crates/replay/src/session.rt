@@ -24,7 +24,8 @@ pub(crate) struct Session<W: Write + Drop> {
     game: Option<Game>,
 }
 
-// Reads a message line, and prints the message written back as a line, or what is wrong with it.
+// Reads a message line, and prints the message written back as a line, or what is wrong with it. The program that reads
+// lines alone prints the same by code of its own: the format is each program's, and no library has texts of programs.
 fn read<W: Write>(out: &mut W, line: &[u8]) -> anyhow::Result<()> {
     let mut memory = [0; 64];
     match read_then_write(line, &mut memory) {
