@@ -68,6 +68,8 @@ fn print_faults<W: Write>(out: &mut W, lines: &[u64]) -> anyhow::Result<()> {
 }
 
 // Opens the run and makes the calls that wait.
+// The heap, the output, the policies and the game are lent one by one: a struct of them would be three loans with a lifetime
+// and a type parameter, made in one place for one call.
 fn open<W: Write>(
     heap: Global,
     out: &mut W,
