@@ -72,9 +72,7 @@ fn time_turns(rt: &HostRuntime) -> anyhow::Result<()> {
     let (mut table, standing) = full_table(rt, 5)?;
     let mut releases = Spent::none();
     let mut grants = Spent::none();
-    for turn in 0..16_000usize {
-        let from = turn % 8 * 8;
-        let some = standing.as_slice().get(from..from + 8).unwrap_or(&[]);
+    for some in standing.chunks(8).cycle().take(16_000) {
         let start = Instant::now(rt)?;
         let released = release_all(&mut table, some);
         releases.add(rt, start, released)?;

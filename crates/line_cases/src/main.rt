@@ -6,13 +6,14 @@ use refusal::kinds::Refusal;
 use std::alloc::Global;
 use std::io::{Read, Write};
 
-// Appends what a line is told.
+// Appends what a line is told. A script's `read` prints the same by code of its own: the format is each program's, and no
+// library has texts of programs.
 fn tell(line: &[u8], told: &mut Vec<u8>) -> anyhow::Result<()> {
     let mut memory = [0; 64];
     match read_then_write(line, &mut memory) {
         Ok(count) => {
             write!(told, "message ")?;
-            told.write_all(&memory[0..count])?;
+            told.write_all(&memory[..count])?;
             writeln!(told)?;
         }
         Err(error) => {

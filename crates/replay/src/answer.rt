@@ -24,25 +24,31 @@ impl From<Option<u32>> for Told {
     }
 }
 
-fn show_request<W: fmt::Write>(request: Request, f: &mut fmt::Formatter<W>) -> fmt::Result {
-    let Request {
-        vehicle,
-        number,
-        body,
-        distance,
-        entry,
-    } = request;
-    let Body {
-        approach,
-        movement,
-        lane,
-        length,
-        speed,
-    } = body;
-    write!(
-        f,
-        "request {vehicle} {number} {approach} {lane} {movement} {length} {speed} {distance} {entry}"
-    )
+// A request as it is printed.
+#[derive(Clone, Copy)]
+struct ShownRequest(Request);
+
+impl fmt::Display for ShownRequest {
+    fn fmt<W: fmt::Write>(&self, f: &mut fmt::Formatter<W>) -> fmt::Result {
+        let Request {
+            vehicle,
+            number,
+            body,
+            distance,
+            entry,
+        } = self.0;
+        let Body {
+            approach,
+            movement,
+            lane,
+            length,
+            speed,
+        } = body;
+        write!(
+            f,
+            "request {vehicle} {number} {approach} {lane} {movement} {length} {speed} {distance} {entry}"
+        )
+    }
 }
 
 impl fmt::Display for Told {
@@ -53,7 +59,7 @@ impl fmt::Display for Told {
             Told::Released(true) => f.write_str("yes"),
             Told::Released(false) => f.write_str("no"),
             Told::Entry(Some(entry)) => write!(f, "entry {entry}"),
-            Told::Standing(Some(request)) => show_request(request, f),
+            Told::Standing(Some(request)) => write!(f, "{}", ShownRequest(request)),
             Told::Entry(None) | Told::Standing(None) => f.write_str("nothing"),
         }
     }
@@ -65,12 +71,12 @@ pub(crate) struct Refused(pub(crate) Refusal);
 
 impl fmt::Display for Refused {
     fn fmt<W: fmt::Write>(&self, f: &mut fmt::Formatter<W>) -> fmt::Result {
-        let number = self.0.number();
+        write!(f, "refused {}", self.0.number())?;
         match self.0 {
-            Refusal::Denied(Denial::Clash(Name { vehicle, number: q })) => {
-                write!(f, "refused {number} {vehicle} {q}")
+            Refusal::Denied(Denial::Clash(Name { vehicle, number })) => {
+                write!(f, " {vehicle} {number}")
             }
-            _ => write!(f, "refused {number}"),
+            _ => Ok(()),
         }
     }
 }

@@ -162,7 +162,7 @@ fn mail_call(keyword: &[u8], words: &mut Words<'_>) -> Option<Call> {
 }
 
 // Any other line that a script may have.
-fn other<'a>(keyword: &[u8], words: &mut Words<'a>) -> Option<Command<'a>> {
+fn session_command<'a>(keyword: &[u8], words: &mut Words<'a>) -> Option<Command<'a>> {
     match keyword {
         b"read" => Some(Command::Read(words.rest()?)),
         b"policy" => Some(Command::Policy(read_making(words)?)),
@@ -185,7 +185,7 @@ fn any_command<'a>(keyword: &[u8], words: &mut Words<'a>) -> Option<Command<'a>>
     if let Some(call) = policy_call(keyword, words) {
         return Some(Command::Ask(call));
     }
-    other(keyword, words)
+    session_command(keyword, words)
 }
 
 impl<'a> Command<'a> {

@@ -28,7 +28,7 @@ pub(crate) struct Game {
 }
 
 // So many calls are held back at most.
-const MOST: usize = 4096;
+const MOST_CALLS: usize = 4096;
 
 impl Game {
     pub(crate) fn new(heap: Global, memory: Memory) -> Game {
@@ -44,7 +44,7 @@ impl Game {
     pub(crate) fn note(&mut self, call: Call, line: u64) -> Result<bool, AllocError> {
         self.calls.push(call)?;
         self.lines.push(line)?;
-        Ok(self.calls.len() >= MOST)
+        Ok(self.calls.len() >= MOST_CALLS)
     }
 
     fn forget(&mut self) {
@@ -68,6 +68,8 @@ fn print_faults<W: Write>(out: &mut W, lines: &[u64]) -> anyhow::Result<()> {
 }
 
 // Opens the run and makes the calls that wait.
+// The heap, the output, the policies and the game are lent one by one: a struct of them would be three loans with a lifetime
+// and a type parameter, made in one place for one call.
 fn open<W: Write>(
     heap: Global,
     out: &mut W,

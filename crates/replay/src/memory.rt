@@ -1,12 +1,13 @@
 // The memories that are lent to a run.
 use super::command::Sizes;
+use super::stop::Stop;
 use grid::kinds::{Approach, Body, Movement};
 use message::row::MessageRow;
 use std::alloc::{AllocError, Global};
 use vehicle::rows::{State, VehicleRow};
 
 // More rows than any call takes; no memory is made larger.
-const MOST: u32 = 2000;
+const MOST_ROWS: u32 = 2000;
 
 #[derive(Drop)]
 pub(crate) struct Memory {
@@ -39,7 +40,13 @@ fn blank_message() -> MessageRow {
 
 // Gives a memory so many rows: those that it has are kept as far as they fit, and new ones are blank.
 fn resize<T: Copy>(rows: &mut Vec<T>, count: u32, blank: T) -> Result<(), AllocError> {
-    rows.resize(count.min(MOST) as usize, blank)
+    rows.resize(count.min(MOST_ROWS) as usize, blank)
+}
+
+// The row with the number, which counts from 1; a number of no row is a fault.
+fn numbered<T>(rows: &mut [T], number: u32) -> Result<&mut T, Stop> {
+    let index = number.checked_sub(1).ok_or(Stop::Fault)?;
+    rows.get_mut(index as usize).ok_or(Stop::Fault)
 }
 
 impl Memory {
@@ -57,17 +64,15 @@ impl Memory {
         resize(&mut self.mail, sizes.mail, blank_message())
     }
 
-    // Makes the length in vehicle row `v` 0, if there is such a row.
-    pub(crate) fn spoil(&mut self, v: u32) -> Option<()> {
-        let row = self.vehicles.get_mut(v.checked_sub(1)? as usize)?;
-        row.body.length = 0;
-        Some(())
+    // Makes the length in the row of the vehicle 0.
+    pub(crate) fn spoil(&mut self, vehicle: u32) -> Result<(), Stop> {
+        numbered(&mut self.vehicles, vehicle)?.body.length = 0;
+        Ok(())
     }
 
-    // Makes message row `i` one of no vehicle, if there is such a row.
-    pub(crate) fn spoil_mail(&mut self, i: u32) -> Option<()> {
-        let row = self.mail.get_mut(i.checked_sub(1)? as usize)?;
-        *row = blank_message();
-        Some(())
+    // Makes the row of the message one of no vehicle.
+    pub(crate) fn spoil_mail(&mut self, message: u32) -> Result<(), Stop> {
+        *numbered(&mut self.mail, message)? = blank_message();
+        Ok(())
     }
 }

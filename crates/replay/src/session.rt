@@ -24,13 +24,14 @@ pub(crate) struct Session<W: Write + Drop> {
     game: Option<Game>,
 }
 
-// Reads a message line, and prints the message written back as a line, or what is wrong with it.
+// Reads a message line, and prints the message written back as a line, or what is wrong with it. The program that reads
+// lines alone prints the same by code of its own: the format is each program's, and no library has texts of programs.
 fn read<W: Write>(out: &mut W, line: &[u8]) -> anyhow::Result<()> {
     let mut memory = [0; 64];
     match read_then_write(line, &mut memory) {
         Ok(count) => {
             write!(out, "message ")?;
-            out.write_all(memory.get(0..count).unwrap_or(&[]))?;
+            out.write_all(&memory[..count])?;
             writeln!(out)?;
         }
         Err(error) => {
@@ -147,13 +148,13 @@ impl<W: Write + Drop> Session<W> {
         self.accept()
     }
 
-    fn spoil(&mut self, v: u32) -> Result<(), Stop> {
-        self.memory()?.spoil(v).ok_or(Stop::Fault)?;
+    fn spoil(&mut self, vehicle: u32) -> Result<(), Stop> {
+        self.memory()?.spoil(vehicle)?;
         self.accept()
     }
 
-    fn spoil_mail(&mut self, i: u32) -> Result<(), Stop> {
-        self.memory()?.spoil_mail(i).ok_or(Stop::Fault)?;
+    fn spoil_mail(&mut self, message: u32) -> Result<(), Stop> {
+        self.memory()?.spoil_mail(message)?;
         self.accept()
     }
 
@@ -166,8 +167,8 @@ impl<W: Write + Drop> Session<W> {
             Command::Ask(call) => self.ask(call),
             Command::State => self.print_state(),
             Command::Memory(sizes) => self.resize(sizes),
-            Command::Spoil(v) => self.spoil(v),
-            Command::SpoilMail(i) => self.spoil_mail(i),
+            Command::Spoil(vehicle) => self.spoil(vehicle),
+            Command::SpoilMail(message) => self.spoil_mail(message),
         }
     }
 

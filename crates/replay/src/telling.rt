@@ -1,6 +1,7 @@
 // What a run tells, and how that is printed.
 use super::memory::Memory;
 use super::stop::Stop;
+use anyhow::anyhow;
 use grid::kinds::Body;
 use grid::tiles::TileSet;
 use lent::scene::Scene;
@@ -55,7 +56,7 @@ impl fmt::Display for ShownState {
 }
 
 // A vehicle's record.
-fn print_vehicle<W: Write>(out: &mut W, v: u32, row: VehicleRow) -> anyhow::Result<()> {
+fn print_vehicle<W: Write>(out: &mut W, number: u32, row: VehicleRow) -> anyhow::Result<()> {
     let Body {
         approach,
         movement,
@@ -65,7 +66,7 @@ fn print_vehicle<W: Write>(out: &mut W, v: u32, row: VehicleRow) -> anyhow::Resu
     } = row.body;
     write!(
         out,
-        "vehicle {v} {approach} {lane} {movement} length {length} speed {speed} "
+        "vehicle {number} {approach} {lane} {movement} length {length} speed {speed} "
     )?;
     let VehicleRow {
         distance,
@@ -84,20 +85,21 @@ fn print_vehicle<W: Write>(out: &mut W, v: u32, row: VehicleRow) -> anyhow::Resu
 }
 
 // A message as a line.
-fn print_message<W: Write>(out: &mut W, i: u32, message: &Message) -> anyhow::Result<()> {
+fn print_message<W: Write>(out: &mut W, number: u32, message: &Message) -> anyhow::Result<()> {
     let mut line = [0; 64];
-    if let Ok(count) = write(message, &mut line) {
-        write!(out, "mail {i} ")?;
-        out.write_all(line.get(0..count).unwrap_or(&[]))?;
-        writeln!(out)?;
-    }
+    let Ok(count) = write(message, &mut line) else {
+        return Err(anyhow!("a message is longer than a line"));
+    };
+    write!(out, "mail {number} ")?;
+    out.write_all(&line[..count])?;
+    writeln!(out)?;
     Ok(())
 }
 
 // The tiles on which a vehicle stands, by row and column.
-fn print_tiles<W: Write>(out: &mut W, v: u32, tiles: TileSet) -> anyhow::Result<()> {
+fn print_tiles<W: Write>(out: &mut W, vehicle: u32, tiles: TileSet) -> anyhow::Result<()> {
     for tile in (0..64u32).filter(|tile| tiles.has(*tile)) {
-        writeln!(out, "on {v} {} {}", tile / 8, tile % 8)?;
+        writeln!(out, "on {vehicle} {} {}", tile / 8, tile % 8)?;
     }
     Ok(())
 }
@@ -116,8 +118,8 @@ impl Telling {
             mail: memory.mail.as_slice(),
         };
         let clock = moment(&scene)?.clock;
-        let records = (1..=1024u32).map_while(|v| scene.vehicle(v).ok());
-        let messages = (1..=256u32).map_while(|i| scene.message(i).ok());
+        let records = (1..=1024u32).map_while(|number| scene.vehicle(number).ok());
+        let messages = (1..=256u32).map_while(|number| scene.message(number).ok());
         Ok(Telling {
             clock,
             vehicles: records.collect(heap)?,
@@ -128,24 +130,24 @@ impl Telling {
     // Prints the clock, the vehicles, the delay of every vehicle that is done, and the mail.
     pub(crate) fn print<W: Write>(&self, out: &mut W) -> anyhow::Result<()> {
         writeln!(out, "clock {}", self.clock)?;
-        for (v, vehicle) in (1u32..).zip(&self.vehicles) {
-            print_vehicle(out, v, vehicle.row)?;
+        for (number, vehicle) in (1u32..).zip(&self.vehicles) {
+            print_vehicle(out, number, vehicle.row)?;
         }
-        for (v, vehicle) in (1u32..).zip(&self.vehicles) {
+        for (number, vehicle) in (1u32..).zip(&self.vehicles) {
             if let Some(delay) = vehicle.delay() {
-                writeln!(out, "delay {v} {delay}")?;
+                writeln!(out, "delay {number} {delay}")?;
             }
         }
-        for (i, message) in (1u32..).zip(&self.mail) {
-            print_message(out, i, message)?;
+        for (number, message) in (1u32..).zip(&self.mail) {
+            print_message(out, number, message)?;
         }
         Ok(())
     }
 
     // Prints on which tiles each vehicle stands.
     pub(crate) fn print_places<W: Write>(&self, out: &mut W) -> anyhow::Result<()> {
-        for (v, vehicle) in (1u32..).zip(&self.vehicles) {
-            print_tiles(out, v, vehicle.tiles(self.clock))?;
+        for (number, vehicle) in (1u32..).zip(&self.vehicles) {
+            print_tiles(out, number, vehicle.tiles(self.clock))?;
         }
         Ok(())
     }

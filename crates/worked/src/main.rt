@@ -14,7 +14,6 @@ use refusal::kinds::{Denial, Refusal};
 use reservation::entries::check_entry;
 use reservation::footprint::Footprint;
 use reservation::request::Request;
-use std::alloc::Global;
 use tile_table::table::TileTable;
 
 // A vehicle of length 10 and speed 4 in lane 0.
@@ -44,7 +43,7 @@ fn entering(junction: Junction, body: Body, entry: u32) -> anyhow::Result<Footpr
     Footprint::of(junction, &request(1, body, 8, entry)).context("the request is out of range")
 }
 
-fn right_turns(rt: &impl Print, junction: Junction) -> anyhow::Result<()> {
+fn right_turns(rt: &HostRuntime, junction: Junction) -> anyhow::Result<()> {
     let south = entering(junction, car(Approach::South, Movement::Right), 3)?;
     let north = entering(junction, car(Approach::North, Movement::Right), 3)?;
     let west = entering(junction, car(Approach::West, Movement::Through), 3)?;
@@ -65,9 +64,8 @@ fn told(answer: Option<bool>) -> anyhow::Result<bool> {
 }
 
 fn cells(
-    rt: &impl Print,
+    rt: &HostRuntime,
     junction: Junction,
-    from: &str,
     approach: Approach,
     entry: u32,
 ) -> anyhow::Result<()> {
@@ -75,12 +73,12 @@ fn cells(
     let second = entering(junction, car(approach, Movement::Through), entry)?;
     let shared = a_or_no(told(first.shares_cell(&second))?);
     println!(rt;
-        "S through entering at 3 and {from} through entering at {entry} share {shared} cell"
+        "S through entering at 3 and {approach} through entering at {entry} share {shared} cell"
     )?;
     Ok(())
 }
 
-fn paths(rt: &impl Print, junction: Junction, entry: u32) -> anyhow::Result<()> {
+fn paths(rt: &HostRuntime, junction: Junction, entry: u32) -> anyhow::Result<()> {
     let body = car(Approach::South, Movement::Through);
     let first = entering(junction, body, 3)?;
     let second = entering(junction, body, entry)?;
@@ -94,7 +92,7 @@ fn paths(rt: &impl Print, junction: Junction, entry: u32) -> anyhow::Result<()> 
 }
 
 // Prints what a policy answered.
-fn say(rt: &impl Print, asked: &str, answer: Result<(), Denial>) -> anyhow::Result<()> {
+fn say(rt: &HostRuntime, asked: &str, answer: Result<(), Denial>) -> anyhow::Result<()> {
     match answer {
         Ok(()) => println!(rt; "{asked}: granted")?,
         Err(Denial::Because(reason)) => {
@@ -114,20 +112,17 @@ fn say(rt: &impl Print, asked: &str, answer: Result<(), Denial>) -> anyhow::Resu
 
 // A new policy is asked for a vehicle from the south that enters at 3, and then for another.
 fn pair<P: Policy + Drop>(
-    rt: &impl Print,
-    heap: Global,
+    rt: &HostRuntime,
     kind: &str,
-    policy: P,
-    from: &str,
+    mut policy: P,
     approach: Approach,
     entry: u32,
 ) -> anyhow::Result<()> {
-    let mut policy = policy;
     let first = car(Approach::South, Movement::Through);
-    let asked = format!(in heap; "a new {kind} is asked for S through entering at 3")?;
+    let asked = format!(in rt.alloc(); "a new {kind} is asked for S through entering at 3")?;
     say(rt, asked.as_str(), policy.ask(&request(1, first, 8, 3)))?;
     let second = car(approach, Movement::Through);
-    let asked = format!(in heap; "then for {from} through entering at {entry}")?;
+    let asked = format!(in rt.alloc(); "then for {approach} through entering at {entry}")?;
     say(
         rt,
         asked.as_str(),
@@ -136,32 +131,25 @@ fn pair<P: Policy + Drop>(
 }
 
 fn tile_pair(
-    rt: &impl Print,
-    heap: Global,
+    rt: &HostRuntime,
     junction: Junction,
-    from: &str,
     approach: Approach,
     entry: u32,
 ) -> anyhow::Result<()> {
-    let table = TileTable::new(heap, junction)?;
-    pair(rt, heap, "tile table", table, from, approach, entry)
+    let table = TileTable::new(rt.alloc(), junction)?;
+    pair(rt, "tile table", table, approach, entry)
 }
 
-fn book_pair(rt: &impl Print, heap: Global, junction: Junction, entry: u32) -> anyhow::Result<()> {
-    let book = LockBook::new(heap, junction)?;
-    pair(rt, heap, "lock book", book, "S", Approach::South, entry)
+fn book_pair(rt: &HostRuntime, junction: Junction, entry: u32) -> anyhow::Result<()> {
+    let book = LockBook::new(rt.alloc(), junction)?;
+    pair(rt, "lock book", book, Approach::South, entry)
 }
 
 // Stop line over a lock book is asked from a distance.
-fn stop_line(
-    rt: &impl Print,
-    heap: Global,
-    junction: Junction,
-    distance: u32,
-) -> anyhow::Result<()> {
-    let mut layer = StopLine::over(LockBook::new(heap, junction)?);
+fn stop_line(rt: &HostRuntime, junction: Junction, distance: u32) -> anyhow::Result<()> {
+    let mut layer = StopLine::over(LockBook::new(rt.alloc(), junction)?);
     let body = car(Approach::South, Movement::Through);
-    let asked = format!(in heap; "Stop line is asked from {distance} units away")?;
+    let asked = format!(in rt.alloc(); "Stop line is asked from {distance} units away")?;
     say(
         rt,
         asked.as_str(),
@@ -169,7 +157,7 @@ fn stop_line(
     )
 }
 
-fn entry_row(rt: &impl Print, junction: Junction, entry: u32) -> anyhow::Result<()> {
+fn entry_row(rt: &HostRuntime, junction: Junction, entry: u32) -> anyhow::Result<()> {
     let body = car(Approach::South, Movement::Through);
     let path = Path::of(junction, body).context("the body does not fit")?;
     match check_entry(&path, 0, 8, entry) {
@@ -182,23 +170,23 @@ fn entry_row(rt: &impl Print, junction: Junction, entry: u32) -> anyhow::Result<
     Ok(())
 }
 
-fn run(rt: &impl Print, heap: Global) -> anyhow::Result<()> {
+fn run(rt: &HostRuntime) -> anyhow::Result<()> {
     let junction = Junction::new(1, 1).ok().context("no such junction")?;
     right_turns(rt, junction)?;
-    cells(rt, junction, "E", Approach::East, 12)?;
-    cells(rt, junction, "E", Approach::East, 13)?;
-    cells(rt, junction, "S", Approach::South, 9)?;
-    cells(rt, junction, "S", Approach::South, 10)?;
-    tile_pair(rt, heap, junction, "E", Approach::East, 12)?;
-    tile_pair(rt, heap, junction, "E", Approach::East, 13)?;
-    tile_pair(rt, heap, junction, "S", Approach::South, 9)?;
-    tile_pair(rt, heap, junction, "S", Approach::South, 10)?;
+    cells(rt, junction, Approach::East, 12)?;
+    cells(rt, junction, Approach::East, 13)?;
+    cells(rt, junction, Approach::South, 9)?;
+    cells(rt, junction, Approach::South, 10)?;
+    tile_pair(rt, junction, Approach::East, 12)?;
+    tile_pair(rt, junction, Approach::East, 13)?;
+    tile_pair(rt, junction, Approach::South, 9)?;
+    tile_pair(rt, junction, Approach::South, 10)?;
     paths(rt, junction, 12)?;
     paths(rt, junction, 13)?;
-    book_pair(rt, heap, junction, 12)?;
-    book_pair(rt, heap, junction, 13)?;
-    stop_line(rt, heap, junction, 0)?;
-    stop_line(rt, heap, junction, 1)?;
+    book_pair(rt, junction, 12)?;
+    book_pair(rt, junction, 13)?;
+    stop_line(rt, junction, 0)?;
+    stop_line(rt, junction, 1)?;
     for entry in [2, 3, 119, 120] {
         entry_row(rt, junction, entry)?;
     }
@@ -208,5 +196,5 @@ fn run(rt: &impl Print, heap: Global) -> anyhow::Result<()> {
 }
 
 fn main(rt: HostRuntime) -> anyhow::Result<()> {
-    run(&rt, rt.alloc())
+    run(&rt)
 }
