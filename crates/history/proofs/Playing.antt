@@ -1,6 +1,6 @@
 -- Lists of calls, made one after the other. Assumes nothing.
-use Rattle.std.proofs.Common.{ℕ, ◌+◌, ◌<◌, ◌≤◌, List, [], ◌∷◌, ◌++◌, length, get_or, take, Ok, Option, sym, subst}
-use Rattle.std.proofs.lemmas.List.{take_all, take_more}
+use Rattle.std.proofs.Common.{ℕ, ◌+◌, ◌<◌, List, [], ◌∷◌, ◌++◌, length, get_or, take, Ok, Option, sym, subst}
+use Rattle.std.proofs.lemmas.List.{take_more}
 use Rattle.grid.specs.declared.junction.Junction.{Junction}
 use Rattle.reservation.specs.declared.request.Request.{Request}
 use Rattle.policy.specs.Views.{Told}
