@@ -1,6 +1,5 @@
 -- Which number a field writes. Assumes nothing.
 use Rattle.std.specs.Prelude.{◌≡◌, ℕ, ◌^◌, ◌<◌, List, length, Some, None, decimal, Option, ◌≢◌, slice_index}
-use Rattle.std.specs.Str.Parse.{digits_value, IsNumeral, without_leading_plus}
 
 -- a zero, byte 48, with more behind it
 abbrev pub LeadingZero : List ℕ → Type 0
@@ -10,8 +9,3 @@ LeadingZero f = (1 < length f) × (slice_index f 0 ≡ 48)
 abbrev pub NumberIn : List ℕ → Option ℕ → Type 0
 NumberIn f (Some n) = f ≡ decimal n
 NumberIn f None = (n : ℕ) → n < 2 ^ 32 → f ≢ decimal n
-
--- the number of the digits behind a plus, if there is one; or that the field writes no number of 32 bits
-abbrev pub ParsedIn : List ℕ → Option ℕ → Type 0
-ParsedIn f (Some n) = IsNumeral 10 (without_leading_plus f) × (n ≡ digits_value 10 (without_leading_plus f)) × (n < 2 ^ 32)
-ParsedIn f None = NumberIn f None
