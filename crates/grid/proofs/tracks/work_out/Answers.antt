@@ -2,15 +2,15 @@ use Rattle.std.proofs.Common.{rules, suc, ◌+◌, ◌-◌, ◌/◌, ap, ◌∙�
 use Rattle.grid.specs.Paths.{last_point_of, point_touches}
 use Rattle.grid.specs.Some.{some}
 use Rattle.grid.specs.Steps.{duration_of, path_touches, points_touch}
-use Rattle.grid.proofs.Fitting.{ceil_is, fits_parts}
+use Rattle.grid.proofs.Fitting.{fits_parts}
 use Rattle.grid.proofs.Sweeps.{some_whole}
 use Rattle.grid.proofs.tracks.work_out.Goals as goal
 
 pub overflow_add-last_point : goal.overflow_add-last_point
 overflow_add-last_point c = let fit = fits_parts c.args.junction.lanes c.args.body c.requires in omega arith
 
-pub div_ceil-requires : goal.div_ceil-requires
-div_ceil-requires c = let fit = fits_parts c.args.junction.lanes c.args.body c.requires in omega arith
+pub ticks_for-requires : goal.ticks_for-requires
+ticks_for-requires c = let fit = fits_parts c.args.junction.lanes c.args.body c.requires in omega arith
 
 pub invariant_of-result : goal.invariant_of-result
 unfolding last_point_of duration_of path_touches
@@ -21,10 +21,7 @@ invariant_of-result c =
     record {
       fitting = c.requires;
       ends = last;
-      lasts =
-          let fit = fits_parts n body c.requires in
-          c.div_ceil.ensures ∙ ceil_is (c.last_of-last_point.result + body.length) body.speed (omega arith)
-          ∙ ap (λ p. (p + body.length + body.speed - 1) / body.speed) last;
+      lasts = c.ticks_for.ensures ∙ ap (λ p. (p + body.length + body.speed - 1) / body.speed) last;
       crosses =
           λ tile. c.points_tiles.ensures tile
           ∙ ap₂ (λ j b. points_touch j.lanes b 0 c.last_of-last_point.result tile) c.new-course.ensures.junction c.new-course.ensures.body
