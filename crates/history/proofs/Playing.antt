@@ -1,9 +1,15 @@
 -- Lists of calls, made one after the other. Assumes nothing.
-use Rattle.std.proofs.Common.{ℕ, ◌+◌, ◌<◌, List, [], ◌∷◌, ◌++◌, length, get_or, take, Ok, Option, sym, subst}
+use Rattle.std.proofs.Common.{◌≡◌, ℕ, ◌+◌, ◌<◌, true, List, [], ◌∷◌, ◌++◌, length, get_or, take, Ok, Option, Result, sym, subst}
 use Rattle.std.proofs.lemmas.List.{take_more}
 use Rattle.grid.specs.declared.junction.Junction.{Junction}
+use Rattle.refusal.specs.declared.kinds.CallFault.{CallFault}
+use Rattle.refusal.specs.declared.kinds.Denial.{Denial}
+use Rattle.refusal.specs.declared.kinds.Name.{Name}
+use Rattle.refusal.specs.declared.kinds.Reason.{Reason}
 use Rattle.reservation.specs.declared.request.Request.{Request}
-use Rattle.policy.specs.Views.{Told}
+use Rattle.reservation.specs.Cells.{share}
+use Rattle.policy.specs.Answers.{Answer as Answers}
+use Rattle.policy.specs.Views.{Advanced, Told, asked, released}
 use Rattle.message.specs.declared.row.MessageRow.{MessageRow}
 use Rattle.vehicle.specs.declared.rows.VehicleRow.{VehicleRow}
 use Rattle.run.specs.declared.call.Call.{Call}
@@ -47,6 +53,22 @@ module _ {P : Type 0} (c : Conduct P) (s : Stage P) (calls : List Call) where
   playing_more i given t u d a lt p made = record {
     ran = subst (λ xs. Ran c s xs (given ++ a ∷ []) u) (sym (take_more calls i d lt)) (ran_more c s t u (take i calls) given (get_or calls i d) a p.ran made);
   }
+
+-- the laws that any policy shows, as a run needs them
+pub laws_shown : {P : Type 0} {clash : Junction → Request → Request → Type 0} {c : Conduct P} (gate : P → Request → Option Reason)
+    → ((j : Junction) (x y : Request) → clash j x y → clash j y x) → ((j : Junction) (x y : Request) → share j x y ≡ true → clash j x y)
+    → ((p : P) (r : Request) (a : Result (Unit {0}) Denial) (t : P) → c.asks p r a t → Answers clash (c.view p) (gate p r) r a)
+    → ((p : P) (r : Request) (a : Result (Unit {0}) Denial) (t : P) → c.asks p r a t → c.view t ≡ asked (c.view p) r a)
+    → ((p : P) (n : Name) (a : _) (t : P) → c.releases p n a t → c.view t ≡ released (c.view p) n)
+    → ((p : P) (a : Result (Unit {0}) CallFault) (t : P) → c.advances p a t → Advanced (c.view p) a (c.view t)) → Lawful clash c
+laws_shown gate symmetric covers answers records removes passes = record {
+  symmetric = symmetric;
+  covers = covers;
+  answers = λ p r a t h. (gate p r, answers p r a t h);
+  records = records;
+  removes = removes;
+  passes = passes;
+}
 
 -- what holds after lists of calls, over any policy that shows the laws
 module _ {P : Type 0} (clash : Junction → Request → Request → Type 0) (c : Conduct P) (lawful : Lawful clash c)

@@ -62,7 +62,9 @@ pub fn replay<P: Policy>(
     ensures answer { Replays (conduct P.view P.asks P.releases P.advances) vehicles.old mail.old policy.old calls.now vehicles.new mail.new policy.new result }
     ensures sound { IfOk result (λ played. Sound P.view P.marks (stage played.run vehicles.new mail.new policy.new)) }
 {
+    // the memory first: where there is none, nobody has been asked whether the run can be opened
+    let mut answers = Vec::with_capacity(heap, calls.len())?;
     let mut run = open(policy, vehicles, mail)?;
-    let answers = go_on(heap, &mut run, policy, vehicles, mail, calls)?;
+    make_all(&mut run, policy, vehicles, mail, calls, &mut answers);
     Ok(Played { run, answers })
 }
