@@ -3,5 +3,6 @@
 
 pub mod book;
 mod judging;
+pub mod lock_book;
 pub mod making;
 pub mod policy_of;
