@@ -1,7 +1,8 @@
 -- The first standing request of a name. Assumes nothing.
 use Rattle.std.proofs.Common.{◌≡◌, ℕ, true, false, not, List, [], ◌∷◌, is_some, Some, None, filter, Option, sym, refl, ap, ◌∙◌, subst, ⊎_elim, arith}
 use Rattle.std.specs.Option.{option_map}
-use Rattle.std.specs.List.{AllByRecursion as All}
+use Rattle.std.specs.List.{ContainsAt as Has, AllByRecursion as All}
+use Rattle.std.proofs.ByRecursion.{has_append_right, has_get_or}
 use Rattle.std.proofs.lemmas.Bool.{both_ways, cases_Bool, cond-true, cond-false, not_from_false}
 use Rattle.refusal.specs.declared.kinds.Name.{Name}
 use Rattle.policy.specs.Views.{found, named}
@@ -30,6 +31,15 @@ module _ (n : Name) where
   -- where none has the name, none is taken out
   pub none_named : (xs : List Standing) → first_of_name n xs ≡ None → filter (other n) xs ≡ xs
   none_named xs none = kept_by_all (other n) xs (others xs none)
+
+  -- the first is one of the list, and has the name
+  pub first_named : (xs : List Standing) (s : Standing) → first_of_name n xs ≡ Some s → Has xs s × (named n s.request ≡ true)
+  first_named [] s e = let z : ◌≡◌ {A = ℕ} 0 1 = cc in absurd (omega arith)
+  first_named (x ∷ xs) s is =
+      by_head x xs (λ o. o ≡ Some s → Has (x ∷ xs) s × (named n s.request ≡ true))
+      (λ t e. let same : x ≡ s = cc in subst (λ y. Has (x ∷ xs) y × (named n y.request ≡ true)) same (has_get_or (x ∷ xs) 0 x (omega arith), t))
+      (λ _ e. let tail = first_named xs s e in (has_append_right (x ∷ []) xs s tail.0, tail.1))
+      is
 
   pub found_first : (xs : List Standing) → found n (requests xs) ≡ option_map (λ s. s.request.entry) (first_of_name n xs)
   found_first [] = refl

@@ -24,6 +24,10 @@ has_standing xs r (k, below, at) =
     let within : k < length xs = rw length-requests at below in
     (get_or xs k d, has_get_or xs k d within, sym (get_or-map (λ s. s.request) xs k d r within) ∙ at r)
 
+pub has_request : (xs : List Standing) (s : Standing) → Has xs s → Has (requests xs) s.request
+has_request xs s (k, below, at) =
+    (k, rw length-requests below, λ e. get_or-map (λ t. t.request) xs k s e below ∙ ap (λ t. t.request) (at s))
+
 -- a filter of the standing ones is one of their requests, where the two tests agree
 module _ (p : Standing → Bool) (q : Request → Bool) where
   kept_alike : (xs : List Standing) → All (λ s. p s ≡ q s.request) xs → requests (filter p xs) ≡ filter q (requests xs)

@@ -1,13 +1,15 @@
 -- The stage that an accepted call leaves. Assumes nothing.
 use Rattle.std.proofs.Common.{◌≡◌, ℕ, ◌+◌, ◌-◌, ◌<◌, ◌≤◌, List, [], ◌∷◌, ◌++◌, length, get_or, drop, set, Option, sym, refl, ap, ◌∙◌, arith}
+use Rattle.std.proofs.ByRecursion.{All-get_or}
 use Rattle.std.proofs.lemmas.List.{get_or_default, get_or-take, length_push, length-set, length-take-le}
 use Rattle.message.specs.declared.row.MessageRow.{MessageRow}
 use Rattle.policy.specs.Views.{View}
 use Rattle.vehicle.specs.declared.rows.VehicleRow.{VehicleRow}
+use Rattle.vehicle.specs.Records.{Good}
 use Rattle.run.specs.declared.run.Run.{Run}
 use Rattle.run.specs.Calls.{Agrees, Whole}
 use Rattle.run.specs.Manager.{replied}
-use Rattle.run.specs.Worlds.{Arrived, Counts, Later, Stage, World, blank, row_of, stage, world}
+use Rattle.run.specs.Worlds.{Arrived, Counts, Later, Stage, World, blank, message_of, no_mail, row_of, stage, world}
 use Rattle.lent.specs.Moves.{Settled}
 use Rattle.lent.proofs.Memory.{kept_part, push_part, put_part}
 
@@ -26,6 +28,14 @@ module _ {P : Type 0} (s : Stage P) (h : Whole s.run s.vehicles s.mail) where
   row_read v d lo hi =
       get_or_default s.vehicles (v - 1) d blank (omega (arith, lo, hi, h.vehicle_count))
       ∙ sym (get_or-take s.run.vehicles s.vehicles (v - 1) blank (omega (arith, lo, hi)))
+
+  pub message_read : (i : ℕ) (d : MessageRow) → 1 ≤ i → i ≤ s.run.mail → get_or s.mail (i - 1) d ≡ message_of (world s).mail i
+  message_read i d lo hi =
+      get_or_default s.mail (i - 1) d no_mail (omega (arith, lo, hi, h.mail_count))
+      ∙ sym (get_or-take s.run.mail s.mail (i - 1) no_mail (omega (arith, lo, hi)))
+
+  pub row_good : (v : ℕ) → Arrived (world s).vehicles v → Good s.run.junction (row_of (world s).vehicles v)
+  row_good v at = All-get_or (Good s.run.junction) (world s).vehicles (v - 1) blank (omega (arith, at.0, at.1)) h.rows
 
   row_count : (v : ℕ) (x : VehicleRow) → s.run.vehicles ≡ length (set (world s).vehicles (v - 1) x)
   row_count v x = sym (length-set (world s).vehicles (v - 1) x ∙ vehicles_long)

@@ -26,14 +26,17 @@ use Rattle.message.specs.declared.kinds.Kind.TheVariants.{Request, Change, Cance
 use Rattle.lines.specs.Good.{FirstBad, Good, ReadAs}
 use Rattle.lines.specs.Readings.{Counted}
 
--- a line has at most five numbers
+-- a line has a number, and at most five
+pub some_fields : (k : Kind) → (0 < length (fields_of k)) × (length (fields_of k) ≤ 5)
+some_fields Request = (omega arith, omega arith)
+some_fields Change = (omega arith, omega arith)
+some_fields Cancel = (omega arith, omega arith)
+some_fields Done = (omega arith, omega arith)
+some_fields Confirm = (omega arith, omega arith)
+some_fields Reject = (omega arith, omega arith)
+
 pub few_fields : (k : Kind) → length (fields_of k) ≤ 5
-few_fields Request = omega arith
-few_fields Change = omega arith
-few_fields Cancel = omega arith
-few_fields Done = omega arith
-few_fields Confirm = omega arith
-few_fields Reject = omega arith
+few_fields k = (some_fields k).1
 
 -- as many numbers as fields
 pub arity : (fs : List Field) (ns : List ℕ) → AllTake fs ns → length ns ≡ length fs

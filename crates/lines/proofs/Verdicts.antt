@@ -53,7 +53,7 @@ module _ (bs : List ℕ) (k : Kind) (o : Opened bs k) where
 
   -- the fields behind the keyword write numbers, each in its range
   module _ (ns : List ℕ) (texts : drop 1 (split bs) ≡ map decimal ns) (a : AllTake (fields_of k) ns) where
-    spelt : bs ≡ text_of k ns
+    pub spelt : bs ≡ text_of k ns
     spelt =
         let some : 0 < length (split bs) = omega (arith, o.counted) in
         sym (join_split bs) ∙ ap join (first_and_rest (split bs) some) ∙ ap (λ t. join (t ∷ drop 1 (split bs))) o.keyword ∙ ap (λ ts. join (keyword k ∷ ts)) texts

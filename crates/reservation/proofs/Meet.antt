@@ -2,10 +2,13 @@
 use Rattle.std.proofs.Common.{◌≡◌, ℕ, Bool, true, false, leb, ◌&&◌, sym, ap, ◌∙◌, ap₂}
 use Rattle.std.proofs.lemmas.Bool.{and_left}
 use Rattle.grid.specs.declared.junction.Junction.{Junction}
+use Rattle.grid.specs.declared.kinds.Body.{Body}
+use Rattle.grid.specs.declared.path.Path.{Path}
 use Rattle.grid.specs.Sets.{has_tile}
 use Rattle.grid.specs.Some.{some}
 use Rattle.grid.specs.Steps.{path_touches}
 use Rattle.grid.proofs.Somes.{some_tests}
+use Rattle.reservation.specs.declared.footprint.Footprint.{Footprint}
 use Rattle.reservation.specs.declared.passage.Passage.{Passage}
 use Rattle.reservation.specs.declared.request.Request.{Request}
 use Rattle.reservation.specs.Cells.{both, both_at, locks, paths_meet, share, spans_overlap}
@@ -29,6 +32,17 @@ module _ (j : Junction) (p q : Request) (answer : Bool) where
   }
 
 -- the tiles of the two whole paths have one in common exactly where the paths do
+pub path_meets : (f : Footprint) (r : Request) (p : Path) → p.junction ≡ f.junction → p.body ≡ r.body
+    → some 64 (λ tile. has_tile f.whole tile && has_tile p.tiles tile) ≡ paths_meet f.junction f.request r
+path_meets f r p at of =
+    some_tests 64 _ _ (λ tile.
+    ap₂ ◌&&◌ (f.crosses tile) (p.crosses tile ∙ ap₂ (λ (j : Junction) (body : Body). path_touches j.lanes body tile) at of))
+
+pub paths_meet_lem : (f g : Footprint) → f.junction ≡ g.junction
+    → some 64 (λ tile. has_tile f.whole tile && has_tile g.whole tile) ≡ paths_meet f.junction f.request g.request
+paths_meet_lem f g one = some_tests 64 _ _ (λ tile. ap₂ ◌&&◌ (f.crosses tile) (g.crosses tile ∙ ap (λ j. path_touches j.lanes g.request.body tile) (sym one)))
+
+-- and those of two passages
 pub passages_meet : (p q : Passage) → p.junction ≡ q.junction
     → some 64 (λ tile. has_tile p.tiles tile && has_tile q.tiles tile) ≡ paths_meet p.junction p.request q.request
 passages_meet p q one = some_tests 64 _ _ (λ tile. ap₂ ◌&&◌ (p.crosses tile) (q.crosses tile ∙ ap (λ j. path_touches j.lanes q.request.body tile) (sym one)))

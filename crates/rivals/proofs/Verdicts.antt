@@ -1,16 +1,19 @@
 -- What a policy without a gate answers, once nothing stops the request. Assumes nothing.
-use Rattle.std.proofs.Common.{◌≡◌, ◌<◌, ◌≤◌, true, false, List, [], ◌∷◌, length, Some, None, Ok, Err, sym, refl, ap, subst, inl, inr, arith}
+use Rattle.std.proofs.Common.{◌≡◌, ℕ, ◌<◌, ◌≤◌, true, false, List, [], ◌∷◌, length, Some, None, Ok, Err, Option, Result, sym, refl, ap, subst, inl, inr, arith}
 use Rattle.std.specs.List.{ContainsAt as Has}
 use Rattle.std.proofs.ByRecursion.{has_append_left, has_append_right, has_push}
 use Rattle.std.proofs.lemmas.Bool.{both_ways}
 use Rattle.grid.specs.declared.junction.Junction.{Junction}
 use Rattle.refusal.specs.declared.kinds.Denial.TheVariants.{Because, Clash}
 use Rattle.refusal.specs.declared.kinds.Name.{Name}
+use Rattle.refusal.specs.declared.kinds.Reason.{Reason}
 use Rattle.refusal.specs.declared.kinds.Reason.TheVariants.{LedgerFull}
 use Rattle.reservation.specs.declared.request.Request.{Request}
-use Rattle.reservation.specs.Requests.{in_range}
-use Rattle.policy.specs.Answers.{Answer, Bars, Denied, Earliest, Judged}
-use Rattle.policy.specs.Layers.{Stopped}
+use Rattle.reservation.specs.Requests.{in_range, name_of}
+use Rattle.ledger.specs.declared.standing.Standing.{Standing}
+use Rattle.ledger.specs.Standings.{requests}
+use Rattle.policy.specs.Answers.{Answer, Bars, Denied, Earliest, Judged, Screened}
+use Rattle.policy.specs.Layers.{Stopped, refused_by}
 use Rattle.policy.specs.Views.{View, found}
 use Rattle.policy.proofs.Layers.{screened_past}
 use Rattle.rivals.specs.Rivals.{Rival, Sought}
@@ -65,3 +68,15 @@ module _ (clash : Junction → Request → Request → Type 0) (w : View) (r : R
   pub grant_verdict : Sought rival w.ledger None → length w.ledger < 64 → Answer clash w None r (Ok tt)
   grant_verdict none room =
       screened_past w r Denied (Judged clash w None r) (Ok tt) past (inr ((λ no. both_ways false refl no), inr (free none, inr ((λ full. omega arith), refl))))
+
+-- what was found of some requests, in other words for the same
+pub sought_same : (clash : Junction → Request → Request → Type 0) (j k : Junction) (r q : Request) (xs ys : List Standing) (o : Option Name)
+    → j ≡ k → r ≡ q → xs ≡ ys → Sought (Rival clash j r) (requests xs) o → Sought (Rival clash k q) (requests ys) o
+sought_same clash j k r q xs ys o ej er ex h =
+    subst (λ zs. Sought (Rival clash k q) (requests zs) o) ex
+    (subst (λ s. Sought (Rival clash k s) (requests xs) o) er
+    (subst (λ l. Sought (Rival clash l r) (requests xs) o) ej h))
+
+pub stopped_same : (w : View) (own : Option Reason) (r : Request) (standing : Option ℕ) (o : Result (Unit {0}) Reason) → standing ≡ found (name_of r) w.ledger
+    → Screened w.junction w.clock standing r (λ g p. p ≡ Err g) (λ p. p ≡ refused_by own) o → Stopped w own r o
+stopped_same w own r standing o is h = subst (λ s. Screened w.junction w.clock s r (λ g p. p ≡ Err g) (λ p. p ≡ refused_by own) o) is h

@@ -48,7 +48,7 @@ module _ {P : Type 0} (c : Conduct P) (s : Stage P) (v : ℕ) (x : Vehicle) (r :
   at_state F = subst (λ y. F y.state) is
 
   -- those of lower numbers, among all and among those counted
-  ahead : ahead_of (world s).vehicles v ≡ last_of_lane (lane_number_of x.row.body) (take (v - 1) s.vehicles)
+  pub ahead : ahead_of (world s).vehicles v ≡ last_of_lane (lane_number_of x.row.body) (take (v - 1) s.vehicles)
   ahead =
       ap (λ y. last_of_lane (lane_number_of y.body) (take (v - 1) (world s).vehicles)) (sym is)
       ∙ ap (last_of_lane (lane_number_of x.row.body)) (take-take (v - 1) s.run.vehicles s.vehicles (omega (arith, within)))
