@@ -3,7 +3,7 @@ use grid::kinds::Body;
 use refusal::kinds::{Denial, Name, Refusal};
 use reservation::request::Request;
 use std::fmt;
-use std::io::Write;
+use std::io::{self, Write};
 
 // What a call answers that is not refused.
 #[derive(Clone, Copy)]
@@ -82,13 +82,9 @@ impl fmt::Display for Refused {
 }
 
 // Prints an answer, a line of its own.
-pub(crate) fn print_answer<W: Write>(
-    out: &mut W,
-    answer: Result<Told, Refusal>,
-) -> anyhow::Result<()> {
+pub(crate) fn print_answer<W: Write>(out: &mut W, answer: Result<Told, Refusal>) -> io::Result<()> {
     match answer.map_err(Refused) {
-        Ok(told) => writeln!(out, "{told}")?,
-        Err(refused) => writeln!(out, "{refused}")?,
+        Ok(told) => writeln!(out, "{told}"),
+        Err(refused) => writeln!(out, "{refused}"),
     }
-    Ok(())
 }

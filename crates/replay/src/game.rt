@@ -2,13 +2,12 @@
 use super::answer::{Told, print_answer};
 use super::memory::Memory;
 use super::pile::Pile;
-use anyhow::anyhow;
 use history::played::Unplayed;
 use refusal::kinds::Refusal;
 use run::call::{Answer, Call};
 use run::run::Run;
 use std::alloc::{AllocError, Global};
-use std::io::Write;
+use std::io::{self, Write};
 
 #[derive(Clone, Copy)]
 pub(crate) enum Stage {
@@ -53,14 +52,14 @@ impl Game {
     }
 }
 
-fn print_answers<W: Write>(out: &mut W, answers: &[Answer]) -> anyhow::Result<()> {
+fn print_answers<W: Write>(out: &mut W, answers: &[Answer]) -> io::Result<()> {
     for answer in answers {
         print_answer(out, answer.map(Told::from).map_err(Refusal::from))?;
     }
     Ok(())
 }
 
-fn print_faults<W: Write>(out: &mut W, lines: &[u64]) -> anyhow::Result<()> {
+fn print_faults<W: Write>(out: &mut W, lines: &[u64]) -> io::Result<()> {
     for line in lines {
         writeln!(out, "fault {line}")?;
     }
@@ -75,7 +74,7 @@ fn open<W: Write>(
     out: &mut W,
     pile: &mut Pile,
     game: &mut Game,
-) -> anyhow::Result<Stage> {
+) -> io::Result<Stage> {
     match pile.replay(heap, &mut game.memory, &game.calls) {
         Ok(played) => {
             print_answer(out, Ok(Told::Accepted))?;
@@ -87,7 +86,7 @@ fn open<W: Write>(
             print_faults(out, &game.lines)?;
             Ok(Stage::Refused)
         }
-        Err(Unplayed::NoMemory) => Err(anyhow!("out of memory")),
+        Err(Unplayed::NoMemory) => Err(AllocError.into()),
     }
 }
 
@@ -98,7 +97,7 @@ fn go_on<W: Write>(
     pile: &mut Pile,
     game: &mut Game,
     mut run: Run,
-) -> anyhow::Result<Stage> {
+) -> io::Result<Stage> {
     let answers = pile.go_on(heap, &mut run, &mut game.memory, &game.calls)?;
     print_answers(out, &answers)?;
     Ok(Stage::Open(run))
@@ -110,7 +109,7 @@ pub(crate) fn play<W: Write>(
     out: &mut W,
     pile: &mut Pile,
     game: &mut Game,
-) -> anyhow::Result<()> {
+) -> io::Result<()> {
     game.stage = match game.stage {
         Stage::Opening => open(heap, out, pile, game)?,
         Stage::Open(run) => go_on(heap, out, pile, game, run)?,

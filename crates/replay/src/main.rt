@@ -14,10 +14,10 @@ mod telling;
 mod words;
 
 use session::Session;
-use std::io::{BufWriter, Read};
+use std::io::{self, BufWriter, Read};
 
 // Plays all lines of the text; the last may lack its line feed.
-fn play_all(rt: &HostRuntime, text: &[u8]) -> anyhow::Result<()> {
+fn play_all(rt: &HostRuntime, text: &[u8]) -> io::Result<()> {
     let mut session = Session::new(rt.alloc(), BufWriter::new(rt.alloc(), rt.stdout())?);
     for line in text.split(|b| *b == b'\n') {
         session.play(line)?;
@@ -28,7 +28,7 @@ fn play_all(rt: &HostRuntime, text: &[u8]) -> anyhow::Result<()> {
 fn run(rt: &HostRuntime) -> anyhow::Result<()> {
     let mut text = Vec::new(rt.alloc());
     rt.stdin().read_to_end(&mut text)?;
-    play_all(rt, text.as_slice())
+    Ok(play_all(rt, text.as_slice())?)
 }
 
 fn main(rt: HostRuntime) -> anyhow::Result<()> {

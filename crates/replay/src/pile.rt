@@ -11,6 +11,7 @@ use history::replay::{go_on, replay};
 use layers::distance::Distance;
 use layers::stop_line::StopLine;
 use policy::policy::Policy;
+use refusal::kinds::Refusal;
 use reservation::request::Request;
 use run::call::{Answer, Call};
 use run::run::Run;
@@ -38,7 +39,7 @@ pub(crate) enum Pile {
 }
 
 // One call of any policy.
-fn perform<P: Policy>(policy: &mut P, call: &PolicyCall) -> Result<Told, Stop> {
+fn perform<P: Policy>(policy: &mut P, call: &PolicyCall) -> Result<Told, Refusal> {
     Ok(match call {
         PolicyCall::Book(request) => {
             policy.ask(request)?;
@@ -89,7 +90,7 @@ impl Pile {
         })
     }
 
-    pub(crate) fn perform(&mut self, call: &PolicyCall) -> Result<Told, Stop> {
+    pub(crate) fn perform(&mut self, call: &PolicyCall) -> Result<Told, Refusal> {
         with_policy!(self, policy => perform(policy, call))
     }
 
@@ -119,13 +120,8 @@ impl Pile {
     }
 
     // What the run tells.
-    pub(crate) fn telling(
-        &self,
-        heap: Global,
-        run: &Run,
-        memory: &Memory,
-    ) -> Result<Telling, Stop> {
-        with_policy!(self, policy => Telling::of(heap, run, policy, memory))
+    pub(crate) fn telling<'a>(&self, run: &Run, memory: &'a Memory) -> Result<Telling<'a>, Stop> {
+        with_policy!(self, policy => Telling::of(run, policy, memory))
     }
 
     pub(crate) fn clock(&self) -> u32 {

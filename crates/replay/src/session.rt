@@ -12,7 +12,7 @@ use refusal::kinds::Refusal;
 use run::call::Call;
 use run::run::Run;
 use std::alloc::Global;
-use std::io::Write;
+use std::io::{self, Write};
 
 #[derive(Drop)]
 pub(crate) struct Session<W: Write + Drop> {
@@ -26,31 +26,24 @@ pub(crate) struct Session<W: Write + Drop> {
 
 // Reads a message line, and prints the message written back as a line, or what is wrong with it. The program that reads
 // lines alone prints the same by code of its own: the format is each program's, and no library has texts of programs.
-fn read<W: Write>(out: &mut W, line: &[u8]) -> anyhow::Result<()> {
+fn read<W: Write>(out: &mut W, line: &[u8]) -> io::Result<()> {
     let mut memory = [0; 64];
     match read_then_write(line, &mut memory) {
         Ok(count) => {
             write!(out, "message ")?;
             out.write_all(&memory[..count])?;
-            writeln!(out)?;
+            writeln!(out)
         }
         Err(error) => {
             let number = Refusal::from(error.fault).number();
-            writeln!(out, "line-fault {number} {} {}", error.field, error.byte)?;
+            writeln!(out, "line-fault {number} {} {}", error.field, error.byte)
         }
     }
-    Ok(())
 }
 
 // What a run and its policy tell, in the order of a script's state.
-fn print_all<W: Write>(
-    heap: Global,
-    out: &mut W,
-    pile: &Pile,
-    run: &Run,
-    memory: &Memory,
-) -> Result<(), Stop> {
-    let telling = pile.telling(heap, run, memory)?;
+fn print_all<W: Write>(out: &mut W, pile: &Pile, run: &Run, memory: &Memory) -> Result<(), Stop> {
+    let telling = pile.telling(run, memory)?;
     telling.print(out)?;
     print_standing(out, pile)?;
     telling.print_places(out)?;
@@ -81,7 +74,7 @@ impl<W: Write + Drop> Session<W> {
     }
 
     // Makes the calls that wait. A run that was refused is none.
-    fn catch_up(&mut self) -> anyhow::Result<()> {
+    fn catch_up(&mut self) -> io::Result<()> {
         let (Some(pile), Some(game)) = (&mut self.pile, &mut self.game) else {
             return Ok(());
         };
@@ -116,9 +109,7 @@ impl<W: Write + Drop> Session<W> {
 
     fn ask(&mut self, call: PolicyCall) -> Result<(), Stop> {
         let pile = self.pile.as_mut().ok_or(Stop::Fault)?;
-        let told = pile.perform(&call)?;
-        print_answer(&mut self.out, Ok(told))?;
-        Ok(())
+        Ok(print_answer(&mut self.out, pile.perform(&call))?)
     }
 
     // A run call waits until another line has to be played, or there are many.
@@ -137,7 +128,7 @@ impl<W: Write + Drop> Session<W> {
             return Ok(());
         };
         if let Stage::Open(run) = game.stage {
-            print_all(self.heap, &mut self.out, pile, &run, &game.memory)?;
+            print_all(&mut self.out, pile, &run, &game.memory)?;
         }
         Ok(())
     }
@@ -182,7 +173,7 @@ impl<W: Write + Drop> Session<W> {
     }
 
     // Plays one line, and prints what it answers.
-    pub(crate) fn play(&mut self, line: &[u8]) -> anyhow::Result<()> {
+    pub(crate) fn play(&mut self, line: &[u8]) -> io::Result<()> {
         self.line = self.line.saturating_add(1);
         if line.first().is_none_or(|first| *first == b'#') {
             return Ok(());
@@ -190,15 +181,14 @@ impl<W: Write + Drop> Session<W> {
         match self.answer(line) {
             Ok(()) => Ok(()),
             Err(Stop::Refused(refusal)) => print_answer(&mut self.out, Err(refusal)),
-            Err(Stop::Fault) => Ok(writeln!(self.out, "fault {}", self.line)?),
+            Err(Stop::Fault) => writeln!(self.out, "fault {}", self.line),
             Err(Stop::Broken(error)) => Err(error),
         }
     }
 
     // Makes the calls that wait, and prints what is still held back.
-    pub(crate) fn finish(&mut self) -> anyhow::Result<()> {
+    pub(crate) fn finish(&mut self) -> io::Result<()> {
         self.catch_up()?;
-        self.out.flush()?;
-        Ok(())
+        self.out.flush()
     }
 }

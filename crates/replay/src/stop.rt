@@ -1,6 +1,8 @@
-// Why a line does not come to its end.
+// Why a line does not come to its end. An error of the output's own and no `anyhow::Error`, which has twice the bytes: room is
+// made for one at each step of each line.
 use refusal::kinds::{CallFault, Denial, JunctionFault, Refusal};
 use std::alloc::AllocError;
+use std::io;
 
 #[derive(Drop)]
 pub(crate) enum Stop {
@@ -9,7 +11,7 @@ pub(crate) enum Stop {
     // it asks for nothing that there is
     Fault,
     // nothing more can be stored or printed
-    Broken(anyhow::Error),
+    Broken(io::Error),
 }
 
 impl From<JunctionFault> for Stop {
@@ -31,13 +33,14 @@ impl From<Denial> for Stop {
 }
 
 impl From<AllocError> for Stop {
-    fn from(error: AllocError) -> Stop {
-        Stop::Broken(error.into())
+    fn from(_error: AllocError) -> Stop {
+        let error = io::Error::new(io::ErrorKind::OutOfMemory, "memory allocation failed");
+        Stop::Broken(error)
     }
 }
 
-impl From<anyhow::Error> for Stop {
-    fn from(error: anyhow::Error) -> Stop {
+impl From<io::Error> for Stop {
+    fn from(error: io::Error) -> Stop {
         Stop::Broken(error)
     }
 }

@@ -1,4 +1,6 @@
 // The words of a line, which single spaces part, and what stands for a number or a letter.
+ghost use Rattle.std.specs.Prelude.{pos, ◌≤ℤ◌, IfSome};
+
 use fields::numbers::read_number;
 
 #[derive(Drop)]
@@ -8,7 +10,9 @@ pub(crate) struct Words<'a> {
 }
 
 // A number from 1 to 99.
-fn ticks_of(digits: &[u8]) -> Option<i32> {
+fn ticks_of(digits: &[u8]) -> Option<i32>
+    ensures { IfSome result (λ n. (pos 1 ≤ℤ n) × (n ≤ℤ pos 99)) }
+{
     let number = i32::try_from(read_number(digits)?).ok()?;
     (1..=99).contains(&number).then_some(number)
 }
