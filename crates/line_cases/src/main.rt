@@ -3,32 +3,33 @@
 
 use lines::round::read_then_write;
 use refusal::kinds::Refusal;
-use std::alloc::Global;
-use std::io::{Read, Write};
+use std::alloc::{AllocError, Global};
+use std::io::{self, Read, Write};
 
 // Appends what a line is told. A script's `read` prints the same by code of its own: the format is each program's, and no
 // library has texts of programs.
-fn tell(line: &[u8], told: &mut Vec<u8>) -> anyhow::Result<()> {
+fn tell(line: &[u8], told: &mut Vec<u8>) -> io::Result<()> {
     let mut memory = [0; 64];
     match read_then_write(line, &mut memory) {
         Ok(count) => {
-            write!(told, "message ")?;
+            told.write_all(b"message ")?;
             told.write_all(&memory[..count])?;
-            writeln!(told)?;
+            told.write_all(b"\n")
         }
         Err(error) => {
             let number = Refusal::from(error.fault).number();
-            writeln!(told, "line-fault {number} {} {}", error.field, error.byte)?;
+            writeln!(told, "line-fault {number} {} {}", error.field, error.byte)
         }
     }
-    Ok(())
 }
 
 // What all lines of the text are told. The last may lack its line feed.
 fn tell_all(heap: Global, text: &[u8]) -> anyhow::Result<Vec<u8>> {
     let mut told = Vec::new(heap);
     for line in text.split_inclusive(|b| *b == b'\n') {
-        tell(line.strip_suffix(b"\n").unwrap_or(line), &mut told)?;
+        let line = line.strip_suffix(b"\n").unwrap_or(line);
+        // a `Vec` takes all that is written, unless memory is wanting
+        tell(line, &mut told).map_err(|_| AllocError)?;
     }
     Ok(told)
 }
